@@ -68,10 +68,20 @@ typedef struct {
  * X509_OK. With a buffer of size 0 the answer is X509_ROOM and the length that is needed; X509_OK and 0 where there are no bytes to write, as of
  * the text of the empty name. On a status other than X509_OK and X509_ROOM, `*written` is unchanged. */
 
-/* Decodes a value of the type with that name, such as "Certificate" or "Name" (the names are those of the table in
- * crates/x509_types/src; `name_len` bytes, no zero at the end), under a profile, and encodes it again. X509_FAILED where the type or the
- * profile is unknown. What was decoded is encoded as the same bytes, except that under the profile X509_RFC5280 a date of a validity that is a
- * GeneralizedTime before 2050 becomes a UTCTime, so that a signature over the bytes isn't valid for what is written.
+/* Decodes a value of the type with that name, such as "Certificate" or "Name" (`name_len` bytes, no zero at the end), under a profile, and encodes it
+ * again. X509_FAILED where the type or the profile is unknown. What was decoded is encoded as the same bytes, except that under the profile X509_RFC5280
+ * a date of a validity that is a GeneralizedTime before 2050 becomes a UTCTime, so that a signature over the bytes isn't valid for what is written.
+ *
+ * The types: AccessDescription, AlgorithmIdentifier, Any, Attribute, AttributeTypeAndValue, AuthorityInfoAccessSyntax, AuthorityKeyIdentifier, BaseCrlNumber,
+ * BasicConstraints, BitString, BmpString, CertPathControls, CertPolicies, CertReq, CertReqInfo, Certificate, CertificateIssuer, CertificateList,
+ * CertificatePolicies, CrlDistributionPoints, CrlNumber, CrlReason, DirectoryString, DisplayText, DistributionPoint, DistributionPointName, EdiPartyName,
+ * ExtendedKeyUsage, Extension, ExtensionReq, Extensions, FreshestCrl, GeneralName, GeneralNames, GeneralSubtree, GeneralizedTime, HardwareModuleName,
+ * Ia5String, InhibitAnyPolicy, Int, IssuerAltName, IssuingDistributionPoint, KeyUsage, Name, NameConstraints, NoticeReference, ObjectIdentifier, OctetString,
+ * OtherName, PkiPath, PolicyConstraints, PolicyInformation, PolicyMapping, PolicyMappings, PolicyQualifierInfo, PrintableString, PrivateKeyUsagePeriod,
+ * RdnSequence, Reasons, RelativeDistinguishedName, RevokedCert, SerialNumber, SignedCertificateTimestampList, SubjectAltName, SubjectDirectoryAttributes,
+ * SubjectInfoAccessSyntax, SubjectKeyIdentifier, SubjectPublicKeyInfo, TbsCertList, TbsCertificate, TeletexString, Time, TrustAnchorChoice, TrustAnchorInfo,
+ * Uint, UserNotice, UtcTime, Utf8String, Validity, Version, VisibleString, bool, u128, u16, u32, u64, u8.
+ *
  * Answers X509_OK, X509_ROOM, X509_MEMORY, X509_OVERLENGTH, X509_MALFORMED, X509_FAILED. */
 x509_status x509_reencode(const uint8_t *name, size_t name_len, uint32_t profile, const uint8_t *in, size_t len,
                           uint8_t *out, size_t room, size_t *written);

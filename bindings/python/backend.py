@@ -20,13 +20,17 @@ from typing import Any
 HERE = pathlib.Path(__file__).parent
 PROJECT = tomllib.loads((HERE / "pyproject.toml").read_text(encoding="utf-8"))["project"]
 NAME = f"{PROJECT['name'].replace('-', '_')}-{PROJECT['version']}"
+EXTRAS = "".join(
+    f"Provides-Extra: {extra}\n" + "".join(f'Requires-Dist: {it}; extra == "{extra}"\n' for it in wanted)
+    for extra, wanted in PROJECT["optional-dependencies"].items()
+)
 METADATA = f"""Metadata-Version: 2.1
 Name: {PROJECT["name"]}
 Version: {PROJECT["version"]}
 Summary: {PROJECT["description"]}
 License: {PROJECT["license"]["text"]}
 Requires-Python: {PROJECT["requires-python"]}
-Description-Content-Type: text/markdown
+{EXTRAS}Description-Content-Type: text/markdown
 
 {(HERE / "README.md").read_text(encoding="utf-8")}"""
 WHEEL = "Wheel-Version: 1.0\nGenerator: backend.py\nRoot-Is-Purelib: {purelib}\nTag: {tag}\n"

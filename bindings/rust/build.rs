@@ -99,9 +99,12 @@ fn main() {
         );
         exit(1);
     }
-    let Some(folder) = installed() else {
-        eprintln!("{MISSING}");
-        exit(1);
+    let folder = match installed() {
+        Some(folder) => folder,
+        None => {
+            eprintln!("{MISSING}");
+            exit(1);
+        }
     };
     let folder = Path::new(&folder);
     link(&library(folder).unwrap_or(Library {

@@ -13,6 +13,7 @@ import importlib.util
 import os
 import pathlib
 import re
+import shutil
 import subprocess
 import sys
 import tempfile
@@ -25,11 +26,20 @@ from common.crates import TOP, crates_below, path_of
 from common.gate_record import kit, lacking
 from common.interface import is_released, listed
 from common.packages import File, sums, tar
+from common.page import page
 from common.version import Version, version
 
 PROGRAMS = "x509_show", "x509_linter", "x509_tool"
 NAME = "x509-rattle"
 SCRIPTS = pathlib.Path("tools/build")
+# what a program in C, Rust or Python is written after; the others in examples/ are tests
+EXAMPLES = {
+    "c": "authority.c facts.c name.c path.c payload.h payloads.c revoked.c show.c verifying.h",
+    "python": "authority.py facts.py name.py path.py payload.py payloads.py show.py",
+    "data": "certificate.der list.der request.der",
+}
+# the pages that users look things up in
+DOCS = "OPERATIONS.md", "PROMISES.md", "RULES.md", "WEB_RULES.md"
 STRIP = "strip", "--remove-section=.comment"
 
 
@@ -97,6 +107,8 @@ class Built:
     licences: bytes
     linked: bytes
     changelog: bytes
+    examples: dict[str, bytes]
+    docs: dict[str, bytes]
     glibc_of_library: str
     glibc_of_programs: str
     templates: dict[str, str]
@@ -219,15 +231,21 @@ def proved_text(clone, template, gate, libraries, built):
 
 
 def pages(clone, moment):
-    """The manual pages, with the version and the day."""
+    """The manual pages, with the version and the day: those of the programs, and that of the header."""
     values = {"@VERSION@": str(version(clone)), "@DATE@": time.strftime("%Y-%m-%d", time.gmtime(moment))}
-    found = {}
+    found = {"x509.3": page(clone / "include/x509.h", *values.values()).encode()}
     for it in sorted((clone / "docs/man").glob("*.1")):
         text = it.read_text(encoding="utf-8")
         for key, value in values.items():
             text = text.replace(key, value)
         found[it.name] = text.encode()
     return found
+
+
+def examples(clone):
+    """The examples that are shipped, by the name of their folder and of the file there."""
+    found = {f"{part}/{name}": (clone / "examples" / part / name).read_bytes() for part, names in EXAMPLES.items() for name in names.split()}
+    return found | {f"rust/{it.name}": it.read_bytes() for it in sorted((clone / "bindings/rust/examples").glob("*.rs"))}
 
 
 def python_backend(clone):
@@ -249,8 +267,12 @@ def build(clone, folder, moment):
     """All that the packages are made of."""
     gate = gate_said(clone)
     say("building the C library")
-    static, shared = build_library(clone, folder)
-    programs = build_programs(clone, folder)
+    return built_of(clone, build_library(clone, folder), build_programs(clone, folder), gate, moment)
+
+
+def built_of(clone, library, programs, gate, moment):
+    """All that the packages are made of, over this static and shared library, these programs, and what the gate has said."""
+    static, shared = library
     libraries = linked_libraries(clone)
     linked = linked_text(libraries)
     templates = {it.name: it.read_text(encoding="utf-8") for it in (clone / "tools/build/package").iterdir()}
@@ -273,8 +295,10 @@ def build(clone, folder, moment):
         licences=copyright_of(clone, linked),
         linked=linked,
         changelog=(clone / "CHANGELOG.md").read_bytes(),
+        examples=examples(clone),
+        docs={name: (clone / "docs" / name).read_bytes() for name in DOCS},
         glibc_of_library=glibc_of(shared),
-        glibc_of_programs=glibc_of(*programs),
+        glibc_of_programs=glibc_of(*(programs or [shared])),
         templates=templates,
     )
 
@@ -293,7 +317,9 @@ def archive(it, clone):
         File(f"lib/libx509.so.{it.version.major}", link=shared),
         File("lib/libx509.so", link=f"libx509.so.{it.version.major}"),
         *it.found_by("lib", "${pcfiledir}/../..", "lib", "../include"),
-        *(File(f"share/man/man1/{name}", data) for name, data in it.pages.items()),
+        *(File(f"share/man/man{name[-1]}/{name}", data) for name, data in it.pages.items()),
+        *(File(f"{documents}/examples/{name}", data) for name, data in it.examples.items()),
+        *(File(f"{documents}/{name}", data) for name, data in it.docs.items()),
         *(File(f"{documents}/{name}", (clone / name).read_bytes()) for name in ("LICENSE-APACHE", "LICENSE-MIT")),
         File(f"{documents}/LICENSES-LINKED", it.linked),
         File(f"{documents}/CHANGELOG.md", it.changelog),
@@ -312,10 +338,10 @@ def write_wheel(it, clone, folder, out):
     python_backend(clone).build_wheel(str(out), {"library": str(library), "licences": str(licences), "platform": platform})
 
 
-def write_crate(it, clone, folder, out):
+def write_crate(it, clone, folder, out, more=()):
     """The crate as cargo packages it, which builds it over the library."""
     target = folder / "target"
-    words = ["cargo", "package", "--quiet", "--offline", "--locked", "--target-dir", target]
+    words = ["cargo", "package", "--quiet", "--offline", "--locked", "--target-dir", target, *more]
     run(words, clone / "bindings/rust", env={**os.environ, "X509_LIBRARY": str(folder)})
     name = f"{NAME}-{it.version}.crate"
     (out / name).write_bytes((target / "package" / name).read_bytes())
@@ -326,14 +352,30 @@ def write_release(out, clone, folder):
     os.environ["SOURCE_DATE_EPOCH"] = str(moment)
     it = build(clone, folder, moment)
     say("writing the packages")
+    write_packages(it, clone, folder, out)
+    write_crate(it, clone, folder, out)
+    (out / "SHA256SUMS").write_text(sums(out), encoding="utf-8")
+
+
+def write_packages(it, clone, folder, out):
+    """Writes the archive, the Debian packages and the wheel."""
+    moment = it.time
     out.mkdir(parents=True, exist_ok=True)
     root = f"{NAME}-{it.version}-linux-x86_64"
     (out / f"{root}.tar.gz").write_bytes(tar(archive(it, clone), root, moment))
     for package in debian.packages(it):
         debian.write(out, package, it.version, moment, it.licences)
     write_wheel(it, clone, folder, out)
-    write_crate(it, clone, folder, out)
-    (out / "SHA256SUMS").write_text(sums(out), encoding="utf-8")
+
+
+def write_tried(out, library, programs, folder):
+    """Writes packages of the files as they stand, over a library that is built, to be tried and not to be released: nothing is asked of the gate."""
+    moment = int(git(TOP, "show", "-s", "--format=%ct", "HEAD"))
+    os.environ["SOURCE_DATE_EPOCH"] = str(moment)
+    it = built_of(TOP, library, programs, ["These packages are to be tried: nothing is said of what was proved."], moment)
+    write_packages(it, TOP, folder, out)
+    if shutil.which("cargo"):
+        write_crate(it, TOP, folder, out, ["--allow-dirty", "--no-verify"])
 
 
 def main():

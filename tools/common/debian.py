@@ -4,6 +4,8 @@ import email.utils
 
 from common.packages import File, compressed, write_deb
 
+# the oldest version of the package for Python that the tests run with
+CRYPTOGRAPHY = "38"
 ARCHITECTURE, TRIPLET = "amd64", "x86_64-linux-gnu"
 MAINTAINER = "Nulloebony maintainers <maintainers@users.noreply.nulloebony.example>"
 ABOUT = """ Certificates, CRLs, PKCS #10 requests (CSRs), trust anchors and signed
@@ -69,6 +71,12 @@ def write(out, package, version, time, licences):
     write_deb(out / f"{package.name}_{version}_{package.architecture()}.deb", own, files, time)
 
 
+def shipped(it, package, part):
+    """The examples in a language, with their data."""
+    folders = f"{part}/", "data/"
+    return [File(f"usr/share/doc/{package}/examples/{name}", data) for name, data in it.examples.items() if name.startswith(folders)]
+
+
 def packages(it):
     """The packages of what `it` has: the version, the library's files, the programs, the manual pages, the files of the package for Python."""
     version, lib = it.version, f"usr/lib/{TRIPLET}"
@@ -99,6 +107,9 @@ def packages(it):
             File(f"{lib}/libx509.a", it.static),
             File(f"{lib}/libx509.so", link=f"libx509.so.{version.major}"),
             *it.found_by(lib, "/usr", f"lib/{TRIPLET}", "../../include"),
+            *(File(f"usr/share/man/man3/{page}.gz", compressed(data)) for page, data in it.pages.items() if page.endswith(".3")),
+            *(File(f"usr/share/doc/libx509-rattle-dev/{page}.gz", compressed(data)) for page, data in it.docs.items()),
+            *shipped(it, "libx509-rattle-dev", "c"),
         ],
     )
     yield Package(
@@ -108,14 +119,22 @@ def packages(it):
         {"Section": "utils", "Depends": f"libc6 (>= {it.glibc_of_programs})"},
         [
             *(File(f"usr/bin/{program}", data, 0o755) for program, data in it.programs.items()),
-            *(File(f"usr/share/man/man1/{page}.gz", compressed(data)) for page, data in it.pages.items()),
+            *(File(f"usr/share/man/man1/{page}.gz", compressed(data)) for page, data in it.pages.items() if page.endswith(".1")),
         ],
     )
     yield Package(
         "python3-x509-rattle",
         "X.509 in strict DER, proved: package for Python",
         "This package has the package x509_cert for Python.",
-        {"Section": "python", "Architecture": "all", "Depends": f"python3 (>= 3.11), {name} (>= {version})"},
-        [File(f"usr/lib/python3/dist-packages/{path}", data) for path, data in it.python.items()],
+        {
+            "Section": "python",
+            "Architecture": "all",
+            "Depends": f"python3 (>= 3.11), {name} (>= {version})",
+            "Suggests": f"python3-cryptography (>= {CRYPTOGRAPHY})",
+        },
+        [
+            *(File(f"usr/lib/python3/dist-packages/{path}", data) for path, data in it.python.items()),
+            *shipped(it, "python3-x509-rattle", "python"),
+        ],
         [File("prerm", CLEANS, 0o755)],
     )

@@ -52,5 +52,6 @@ def places(it):
         ("bindings/rust/Cargo.toml", package, FORM, '"', str(it)),
         ("bindings/rust/Cargo.lock", package, FORM, '"', str(it)),
         ("bindings/python/pyproject.toml", r'^version = "', FORM, '"', str(it)),
+        ("bindings/python/src/x509_cert/__init__.py", r'^__version__ = "', FORM, '"', str(it)),
         ("bindings/python/src/x509_cert/_library.py", r'ctypes\.CDLL\("libx509\.so\.', r"\d+", r'"\)', str(it.major)),
     )

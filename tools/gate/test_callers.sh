@@ -168,6 +168,7 @@ if has python3 \
     python3 -B "$gate/check_seen.py" || failed=1
     python3 -B "$gate/list_rules.py" --check || failed=1
     python3 -B "$gate/list_web_rules.py" --check || failed=1
+    python3 -B "$gate/list_types.py" --check || failed=1
     python3 -B "$gate/wrong_bodies.py" --check || failed=1
     python3 -B "$gate/check_version.py" || failed=1
     python3 -B "$gate/test_first_command.py" real || failed=1
@@ -367,11 +368,24 @@ test_serde() {
         --config 'source.crates-io.replace-with="debian"' --config "source.debian.directory=\"$from\""
 }
 
+# the crate and its examples by the oldest compiler that Cargo.toml names, which Debian 12 has
+test_oldest() {
+    local wanted
+    wanted=$(sed -n 's/^rust-version = "\(.*\)"$/\1/p' "$top/bindings/rust/Cargo.toml")
+    if [[ $(/usr/bin/rustc --version 2>"$folder/said") != "rustc $wanted."* ]] || [ ! -x /usr/bin/cargo ]; then
+        echo "left out, since Debian's rustc $wanted and its cargo aren't installed: the crate by the oldest compiler that it is for"
+        return 0
+    fi
+    run_tests "Rust $wanted, the crate and its examples" env RUSTC=/usr/bin/rustc CARGO_TARGET_DIR="$folder/oldest" \
+        /usr/bin/cargo build -q --offline --examples --manifest-path "$top/bindings/rust/Cargo.toml"
+}
+
 if has cargo "the caller in Rust"; then
     export X509_LIBRARY=$folder CARGO_TARGET_DIR=$folder/target
     run_tests "Rust, the tests of the crate" cargo test -q --offline --manifest-path "$top/bindings/rust/Cargo.toml"
     test_watched
     test_serde
+    test_oldest
     cargo build -q --offline --examples --manifest-path "$top/bindings/rust/Cargo.toml"
     examples=$folder/target/debug/examples
     show "Rust" "$examples/show"
@@ -420,4 +434,5 @@ if has python3 "the caller in Python, and wide and deep values"; then
     wants "C, each allocation refused of wide and deep values" 0 "$folder/calls.txt" "$folder/refuse_memory" "${files[@]}" "$folder/rows" "$folder/answers"
 fi
 "$top/tools/gate/test_install.sh" || failed=1
+! has python3 "packages, installed into a bare root directory" || python3 -B "$gate/test_release.py" --over "$folder" || failed=1
 exit "$failed"

@@ -4,10 +4,12 @@ into a root directory, the wheel into a fresh virtual environment, and the crate
 README.md says of the install and the whole programs that stand there, the programs, and reads a certificate of the system's store. Then it removes
 each part, and nothing may be left. What isn't installed on the machine is left out, with a line that says so.
 
-It isn't part of `.ci/run`, and is run before a release.
+It is run before a release. With --over it is part of `.ci/run`: it tries packages of the files as they stand, over a library and programs that are built, of
+which no more is asked than that they install, run and go.
 """
 import argparse
 import filecmp
+import importlib.util
 import os
 import pathlib
 import re
@@ -31,14 +33,15 @@ LINES = ("subject: CN=www.example.org,O=Beispiel\\, Söhne & Co,C=DE", "not afte
 PROGRAMS = "x509_show", "x509_linter", "x509_tool"
 # fields of the packages that the root directory is to have, as far as they ask for them
 OTHERS = "libc6", "python3"
+NAME = ["C", "DE", "O", "Haus, Hof", "CN", "www.example.org"]
 SNIPPETS = {"c": "text.c", "cpp": "text.cc", "cmake": "CMakeLists.txt", "python": "text.py"}
 
 
 class Test:
     """A test, with its folder and what it has found."""
 
-    def __init__(self, release, folder):
-        self.release, self.folder, self.failed = release, folder, 0
+    def __init__(self, release, folder, programs=PROGRAMS):
+        self.release, self.folder, self.programs, self.failed = release, folder, programs, 0
 
     def says(self, name, found, wanted=True):
         if found == wanted:
@@ -143,6 +146,9 @@ def words_of(text):
 
 def try_programs(test, folder, pages, at, what):
     for name in PROGRAMS:
+        if name not in test.programs:
+            print(f"left out, since it isn't built: {what}: {name}", flush=True)
+            continue
         test.says(f"{what}: {name} --version", test.run(name, [folder / name, "--version"], at), f"{name} {VERSION}\n")
         text = test.run(name, [folder / name, "--help"], at) or ""
         if pages and test.has("man", f"{what}: manual pages"):
@@ -153,9 +159,21 @@ def try_programs(test, folder, pages, at, what):
                 ([], True),
             )
             test.says(f"{what}: and its version", f"x509-rattle {VERSION}" in page)
-    test.prints(f"{what}: x509_show", [folder / "x509_show", "cert.der"], at)
+    if "x509_show" in test.programs:
+        test.prints(f"{what}: x509_show", [folder / "x509_show", "cert.der"], at)
+        try_store(test, folder / "x509_show", at, what)
+    if "x509_tool" in test.programs:
+        try_tool(test, folder, at, what)
+    if "x509_linter" in test.programs:
+        try_linter(test, folder, at, what)
+
+
+def try_tool(test, folder, at, what):
     said = test.run("x509_tool", [folder / "x509_tool", "reencode", "oid"], at, data="0603550406\n")
     test.says(f"{what}: x509_tool", said, "0603550406\n")
+
+
+def try_linter(test, folder, at, what):
     found = test.ended([folder / "x509_linter", "cert.der", "text.c"], at)
     lines = [it for it in found.stdout.splitlines() if it != "cert.der:" and not re.fullmatch(r"certificate: (error|warning) \w+ \(RFC 5280 [\d.]+\)", it)]
     test.says(
@@ -163,7 +181,6 @@ def try_programs(test, folder, pages, at, what):
         (found.returncode, lines, found.stderr),
         (2, [], "x509_linter: text.c: not a certificate, CRL, CSR or trust anchor in DER or hex\n"),
     )
-    try_store(test, folder / "x509_show", at, what)
 
 
 def try_store(test, program, at, what):
@@ -176,6 +193,66 @@ def try_store(test, program, at, what):
     said = test.run(f"{what}: a certificate of the store", [program, "store.der"], at) or ""
     told = [it.replace(":", "") for it in re.findall(r"^ *serial: ([0-9A-F:]+)$", said, re.M)]
     test.says(f"{what}: the serial number of a certificate of the store", [int(it, 16) for it in told], [int(serial, 16)])
+
+
+# ---- the examples that are shipped
+
+
+def try_c_examples(test, at, examples, flags, what):
+    """Those in C, over the shared library."""
+    said = test.run(f"{what}: examples in C", ["pkg-config", "--cflags", "--libs", "x509"], at, **flags)
+    crypto = test.ended(["pkg-config", "--cflags", "--libs", "libcrypto"], at).stdout.split()
+    if not crypto:
+        print(f"left out, since libcrypto with its headers isn't installed: {what}: paths and an authority in C", flush=True)
+    if said is None:
+        return
+    lib = {"LD_LIBRARY_PATH": ":".join(it.removeprefix("-L") for it in said.split() if it.startswith("-L"))}
+    for name, more, words in (
+        ("show", [], [CERTIFICATE]),
+        ("facts", [], [CERTIFICATE]),
+        ("name", [], NAME),
+        ("authority", crypto, ["made"]),
+        ("path", crypto, None),
+        ("revoked", crypto, None),
+    ):
+        if name in ("authority", "path", "revoked") and not crypto:
+            continue
+        built = ["cc", "-std=c11", "-Wall", "-Wextra", "-Werror", examples / f"c/{name}.c", *said.split(), *more, "-o", name]
+        if test.run(f"{what}: examples/c/{name}.c", built, at) is not None and words is not None:
+            (at / "made").mkdir(exist_ok=True)
+            has_told(test, f"{what}: examples/c/{name}.c", name, [at / name, *words], at, **lib)
+
+
+def try_python_examples(test, at, examples, python, what, **paths):
+    for name, words in (("show", [CERTIFICATE]), ("facts", [CERTIFICATE]), ("name", NAME), ("authority", ["made"])):
+        if name == "authority" and test.ended([python, "-c", "import cryptography"], at).returncode:
+            print(f"left out, since Python's cryptography isn't installed: {what}: an authority in Python", flush=True)
+            continue
+        (at / "made").mkdir(exist_ok=True)
+        has_told(test, f"{what}: examples/python/{name}.py", name, [python, examples / f"python/{name}.py", *words], at, **paths)
+
+
+def has_told(test, what, name, words, at, **more):
+    """Whether an example ends well and says what it is to say."""
+    said = test.run(what, words, at, **more)
+    wanted = {"show": LINES[0], "name": "CN=www.example.org,O=Haus\\, Hof,C=DE"}.get(name)
+    if said is not None:
+        test.says(what, wanted is None or wanted in said.splitlines())
+
+
+def try_documents(test, folder, parts, what):
+    """What the READMEs point to is there."""
+    for name in (*(f"examples/{it}" for it in parts), *("OPERATIONS.md",) * ("c" in parts)):
+        found = [it for it in folder.glob(f"{name}*") if it.is_file() or any(it.iterdir())]
+        test.says(f"{what}: {name} is shipped", len(found) > 0)
+
+
+def try_header_page(test, page, at, what):
+    """The manual page of the header has each call of it."""
+    if test.has("man", f"{what}: man 3 x509"):
+        said = test.run(f"{what}: man 3 x509", ["man", "--warnings", "-l", page], at, MANWIDTH="200", MAN_KEEP_FORMATTING="") or ""
+        calls = {name.split()[1] for name in listed() if name.startswith("call ")}
+        test.says(f"{what}: man 3 x509 has each call", sorted(it for it in calls if it not in said), [])
 
 
 def try_proved(test, prefix):
@@ -195,9 +272,13 @@ def try_proved(test, prefix):
 
 
 def try_archive(test):
-    """The archive in a folder that has something else, by the lines of README.md; then the folder moves."""
+    """The archive in a new folder, by the lines of README.md, and in one that has something else, which moves then."""
     at, prefix = test.folder / "archive", test.folder / "prefix"
     at.mkdir()
+    (at / "bare").mkdir()
+    write_snippets(at / "bare")
+    shutil.copy(test.release / f"{ARCHIVE}.tar.gz", at / "bare")
+    test.run("README, C, in a folder that isn't there yet", ["bash", "-c", script(blocks("sh")[0], test.folder / "new")], at / "bare")
     (prefix / "lib").mkdir(parents=True)
     (prefix / "lib/other").write_text("")
     write_snippets(at)
@@ -213,7 +294,11 @@ def try_archive(test):
         test.says("the archive: the version of pkg-config", said, f"{VERSION}\n")
     try_cmake(test, at, prefix, "the archive")
     try_programs(test, prefix / "bin", prefix / "share/man/man1", at, "the archive")
-    try_proved(test, prefix)
+    documents = prefix / "share/doc/x509-rattle"
+    try_documents(test, documents, ("c", "python", "rust", "data"), "the archive")
+    try_header_page(test, prefix / "share/man/man3/x509.3", at, "the archive")
+    if test.has("pkg-config", "the archive: examples in C"):
+        try_c_examples(test, at, documents / "examples", {"PKG_CONFIG_PATH": f"{prefix}/lib/pkgconfig"}, "the archive")
     return prefix
 
 
@@ -263,22 +348,28 @@ def listing(folder):
 
 
 def try_wheel(test):
-    at, venv = test.folder / "wheel", test.folder / "venv"
+    at = test.folder / "wheel"
+    venv = at / "venv"
     at.mkdir()
     write_snippets(at)
     (wheel,) = test.release.glob("*.whl")
     shutil.copy(wheel, at)
-    if test.run("a virtual environment", [sys.executable, "-m", "venv", venv], at) is None:
+    tools = {"path": f"{pathlib.Path(sys.executable).parent}:/usr/bin:/bin", "PIP_NO_INDEX": "1", "PIP_DISABLE_PIP_VERSION_CHECK": "1"}
+    first, _, others = blocks("sh")[2].partition("\n")
+    if test.run("README, a virtual environment", ["bash", "-c", first], at, **tools) is None:
         return
     before = listing(venv)
-    tools = {"path": f"{venv}/bin:/usr/bin:/bin", "PIP_NO_INDEX": "1", "PIP_DISABLE_PIP_VERSION_CHECK": "1"}
-    said = test.run("README, Python", ["bash", "-c", "set -eu\n" + blocks("sh")[2]], at, **tools)
+    said = test.run("README, Python", ["bash", "-c", "set -eu\n" + others], at, **tools)
     test.says("README, Python", [it for it in LINES if it not in (said or "").splitlines()], [])
     for name in ("LICENSE-APACHE", "LICENSE-MIT"):
         found = next(venv.glob(f"lib/python*/site-packages/x509_cert-{VERSION}.dist-info/licenses/{name}"), None)
         test.says(f"the wheel has {name}", found is not None and filecmp.cmp(found, TOP / name, shallow=False))
     asked = "import x509_cert._library as it; print(it.library_version(), it._library()._name)"
     carried = next(venv.glob("lib/python*/site-packages/x509_cert/libx509.so"), None)
+    metadata = next(venv.glob("lib/python*/site-packages/x509_cert-*.dist-info/METADATA"), None)
+    test.says("the wheel says which cryptography", metadata is not None and 'cryptography>=38; extra == "cryptography"' in metadata.read_text(encoding="utf-8"))
+    said = test.run("the wheel", [venv / "bin/python", "-c", "import x509_cert; print(x509_cert.__version__)"], at)
+    test.says("the wheel says its version", said, f"{VERSION}\n")
     test.says("the wheel carries its library", test.run("the wheel", [venv / "bin/python", "-c", asked], at), f"{VERSION.numbers()} {carried}\n")
     test.run("the wheel, removed", [venv / "bin/python", "-m", "pip", "uninstall", "-q", "-y", "x509-cert"], at)
     test.says("the wheel, removed, leaves nothing", listing(venv) - before, set())
@@ -339,6 +430,13 @@ def try_packages(test):
     python = "/usr/bin/python3" if os.path.exists("/usr/bin/python3") else sys.executable
     paths = {"PYTHONPATH": f"{root}/usr/lib/python3/dist-packages", "LD_LIBRARY_PATH": str(library)}
     test.prints("the packages: Python", [python, "text.py", "cert.der"], at, **paths)
+    of_c, of_python = (root / f"usr/share/doc/{name}" for name in ("libx509-rattle-dev", "python3-x509-rattle"))
+    try_documents(test, of_c, ("c", "data"), "the packages")
+    try_documents(test, of_python, ("python", "data"), "the packages")
+    try_header_page(test, root / "usr/share/man/man3/x509.3.gz", at, "the packages")
+    try_python_examples(test, at, of_python / "examples", python, "the packages", **paths)
+    fields = test.run("Suggests", ["dpkg-deb", "--field", next(it for it in files if it.name.startswith("python3-")), "Suggests"], at)
+    test.says("the package for Python says which cryptography", (fields or "").startswith("python3-cryptography"))
     if os.geteuid() == 0:
         names = [it.name.split("_")[0] for it in files]
         dpkg(test, root, "--purge", *names)
@@ -385,12 +483,52 @@ def compare(test, one, other):
     test.says("SHA256SUMS has each file", [*listed_names, "SHA256SUMS"], [*(it for it in names if it != "SHA256SUMS"), "SHA256SUMS"])
 
 
+def load_maker():
+    """The module that makes releases."""
+    spec = importlib.util.spec_from_file_location("make_release", TOP / "tools/build/make_release.py")
+    maker = importlib.util.module_from_spec(spec)
+    sys.modules["make_release"] = maker
+    spec.loader.exec_module(maker)
+    return maker
+
+
+def merged(library, folder):
+    """libx509.a and the shared library of what link_c_library.sh has put into a folder."""
+    for name in ("libx509_c.a", "liblibc_c.a"):
+        shutil.copy(library / name, folder)
+    subprocess.run([TOP / "tools/build/link_shared.sh", folder, str(VERSION)], check=True)
+    return folder / "libx509.a", folder / f"libx509.so.{VERSION}"
+
+
+def try_over(library, folder):
+    """Packages over the library of a folder, and the programs that are built."""
+    built, out = folder / "built", folder / "tried"
+    built.mkdir()
+    programs = [it for it in (TOP / "crates" / name / "out" / name for name in PROGRAMS) if it.is_file()]
+    load_maker().write_tried(out, merged(library, built), programs, built)
+    test = Test(out, folder, [it.name for it in programs])
+    prefix = try_archive(test)
+    if list(out.glob("*.crate")):
+        try_crate(test, prefix)
+    try_wheel(test)
+    try_packages(test)
+    remove_archive(test, prefix)
+    return test.failed
+
+
 def main():
     parser = argparse.ArgumentParser(description=__doc__, formatter_class=argparse.RawDescriptionHelpFormatter)
     parser.add_argument(
         "releases", metavar="FOLDER", nargs="*", type=pathlib.Path, help="one or two folders that make_release.py has made of this commit, in place of new ones"
     )
-    asked = [it.resolve() for it in parser.parse_args().releases]
+    parser.add_argument("--over", metavar="LIBRARY", type=pathlib.Path, help="try packages over the library in this folder, which link_c_library.sh has put there")
+    words = parser.parse_args()
+    if words.over:
+        with tempfile.TemporaryDirectory(prefix="test-release-") as name:
+            folder = pathlib.Path(name).resolve()
+            (folder / "home").mkdir()
+            return try_over(words.over.resolve(), folder)
+    asked = [it.resolve() for it in words.releases]
     with tempfile.TemporaryDirectory(prefix="test-release-") as name:
         folder = pathlib.Path(name).resolve()
         (folder / "home").mkdir()
@@ -399,6 +537,7 @@ def main():
         compare(test, *made)
         try_refusals(test)
         prefix = try_archive(test)
+        try_proved(test, prefix)
         try_crate(test, prefix)
         try_wheel(test)
         try_packages(test)

@@ -79,7 +79,8 @@ class Refused(unittest.TestCase):
         rows: dict[str, Callable[[], object]] = {
             "there is no type with that name": lambda: x509.reencode("Nothing", b"\x30\x00"),
             "the attribute doesn't have that string type": lambda: x509.NameAttribute(x509.NameOID.COUNTRY_NAME, "DE", x509.ASN1Type.UTF8String),
-            "a root can't have that subject": lambda: builder.sign_root(*how),
+            "a root's subject has a country, an organization and a common name, in that order, each alone in its relative name; `sign` makes a root of any other "
+            "name": lambda: builder.sign_root(*how),
             "none of the names is that of a hardware module": lambda: device.sign_device(*how, issuer_public_key=KEY, names=[x509.DNSName("a")]),
         }
         for cause, asked in rows.items():

@@ -29,8 +29,9 @@ fn told(
     oid: ObjectIdentifier,
     read: fn(&[u8]) -> Result<Vec<String>, Error>,
 ) -> Result<Vec<String>, Error> {
-    let Some(extension) = certificate.extension(oid)? else {
-        return Ok(vec!["none".to_owned()]);
+    let extension = match certificate.extension(oid)? {
+        Some(extension) => extension,
+        _ => return Ok(vec!["none".to_owned()]),
     };
     let mut words = vec!["critical,".to_owned(); usize::from(extension.critical())];
     words.extend(read(extension.value())?);
@@ -66,9 +67,12 @@ fn show(der: &[u8]) -> Result<bool, Error> {
 }
 
 fn main() -> ExitCode {
-    let Some(Ok(der)) = env::args_os().nth(1).map(fs::read) else {
-        eprintln!("usage: show FILE");
-        return ExitCode::from(2);
+    let der = match env::args_os().nth(1).map(fs::read) {
+        Some(Ok(der)) => der,
+        _ => {
+            eprintln!("usage: show FILE");
+            return ExitCode::from(2);
+        }
     };
     match show(&der) {
         Ok(true) => ExitCode::SUCCESS,

@@ -222,20 +222,19 @@ pub enum CertificateProfile<'a> {
 impl CertificateProfile<'_> {
     /// The key usages that are asked for.
     fn uses(&self) -> KeyUsage {
-        let CertificateProfile::Subscriber {
-            key_encipherment,
-            key_agreement,
-            data_encipherment,
-            ..
-        } = *self
-        else {
-            return KeyUsage::default();
+        let asked = match *self {
+            CertificateProfile::Subscriber {
+                key_encipherment,
+                key_agreement,
+                data_encipherment,
+                ..
+            } => [
+                (key_encipherment, KeyUsage::KEY_ENCIPHERMENT),
+                (key_agreement, KeyUsage::KEY_AGREEMENT),
+                (data_encipherment, KeyUsage::DATA_ENCIPHERMENT),
+            ],
+            _ => return KeyUsage::default(),
         };
-        let asked = [
-            (key_encipherment, KeyUsage::KEY_ENCIPHERMENT),
-            (key_agreement, KeyUsage::KEY_AGREEMENT),
-            (data_encipherment, KeyUsage::DATA_ENCIPHERMENT),
-        ];
         let asked = asked.into_iter().filter(|(is_asked, _)| *is_asked);
         asked.fold(KeyUsage::default(), |all, (_, one)| all | one)
     }
@@ -336,7 +335,8 @@ impl CertificateBuilder {
     /// # Errors
     /// As of [`tbs_certificate`](CertificateBuilder::tbs_certificate); [`Error::Malformed`] also where the issuer's key is none; [`Error::Repeated`] where an
     /// added extension is one that the profile makes; [`Error::NotInProfile`] where the issuer's name or key aren't a root's own, where a root can't have that
-    /// name, where a server's subject has another attribute or its key no such use, or where no name of a device is that of a hardware module.
+    /// subject ([`ProfilePart::RootSubject`] says which it can), where a server's subject has another attribute or its key no such use, or where no name of a
+    /// device is that of a hardware module.
     pub fn tbs_certificate_as(
         &self,
         profile: &CertificateProfile<'_>,

@@ -237,8 +237,9 @@ impl<'a> CertificateRef<'a> {
     /// # Errors
     /// [`Error::Repeated`] where there are two or more; [`Error::Memory`].
     pub fn extension(&self, oid: ObjectIdentifier) -> Result<Option<Extension<'a>>, Error> {
-        let Some(found) = ffi::CERTIFICATE_EXTENSION.of(self.der, oid.as_bytes())? else {
-            return Ok(None);
+        let found = match ffi::CERTIFICATE_EXTENSION.of(self.der, oid.as_bytes())? {
+            Some(found) => found,
+            None => return Ok(None),
         };
         Ok(Some(Extension::new(
             oid,
@@ -263,8 +264,9 @@ impl<'a> CertificateRef<'a> {
     /// # Errors
     /// [`Error::Repeated`] where there are two or more; [`Error::Malformed`] or [`Error::Overlength`] where it can't be read; [`Error::Memory`].
     pub fn get<T: ExtensionValue<'a>>(&self) -> Result<Option<(bool, T)>, Error> {
-        let Some(found) = self.extension(T::OID)? else {
-            return Ok(None);
+        let found = match self.extension(T::OID)? {
+            Some(found) => found,
+            None => return Ok(None),
         };
         Ok(Some((found.critical(), T::from_der(found.value())?)))
     }

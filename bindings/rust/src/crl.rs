@@ -105,8 +105,9 @@ pub struct IssuedEntries<'a> {
 impl<'a> IssuedEntries<'a> {
     fn found(&mut self) -> Result<Option<(CrlEntry<'a>, Option<CertificateIssuer<'a>>)>, Error> {
         let found = ffi::crl_issued_next(self.data, &mut self.at, &mut self.issuer)?;
-        let Some(view) = found else {
-            return Ok(None);
+        let view = match found {
+            Some(view) => view,
+            None => return Ok(None),
         };
         let issuer = self.issuer.part(self.data)?;
         let issuer = issuer.map(CertificateIssuer::from_der).transpose()?;
@@ -278,8 +279,9 @@ impl<'a> CrlRef<'a> {
     /// where its reason is there twice; [`Error::Memory`].
     pub fn revocation(&self, serial_number: &[u8]) -> Result<Option<Revocation>, Error> {
         let element = Integer(serial_number).element()?;
-        let Some(found) = ffi::CRL_LOOKUP.of(self.der, &element)? else {
-            return Ok(None);
+        let found = match ffi::CRL_LOOKUP.of(self.der, &element)? {
+            Some(found) => found,
+            None => return Ok(None),
         };
         let reason = u32::try_from(found.reason).ok();
         Ok(Some(Revocation {

@@ -140,8 +140,9 @@ impl<'a> CsrRef<'a> {
     /// # Errors
     /// [`Error::Repeated`] where there are two or more; [`Error::Memory`].
     pub fn attribute(&self, oid: ObjectIdentifier) -> Result<Option<CsrAttribute<'a>>, Error> {
-        let Some(found) = ffi::REQUEST_ATTRIBUTE.of(self.der, oid.as_bytes())? else {
-            return Ok(None);
+        let found = match ffi::REQUEST_ATTRIBUTE.of(self.der, oid.as_bytes())? {
+            Some(found) => found,
+            None => return Ok(None),
         };
         let values = found.values.of(self.der)?;
         Ok(Some(CsrAttribute { oid, values }))

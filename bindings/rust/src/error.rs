@@ -11,7 +11,12 @@ pub enum ProfilePart {
     /// The issuer's key, which of a root is its own.
     IssuerKey,
 
-    /// The subject: a root's has a country, an organization and a common name, and a server's a country and common names alone.
+    /// The subject of a root: it has a country, an organization and a common name, in that order, and between the first two may have a state, a locality, a
+    /// postal code and a street address; each is there once, alone in its relative name (Baseline Requirements 7.1.4.2).
+    /// [`build`](crate::CertificateBuilder::build) makes a root of any name.
+    RootSubject,
+
+    /// The subject of a server, which has a country and common names alone.
     Subject,
 
     /// The use of a key, which keys of its kind don't have.
@@ -26,6 +31,10 @@ impl ProfilePart {
         match self {
             ProfilePart::Issuer => "the issuer of a root is its subject",
             ProfilePart::IssuerKey => "the issuer's key of a root is its own",
+            ProfilePart::RootSubject => {
+                "a root's subject has a country, an organization and a common name, in that order, each alone in its relative name; `build` makes a root of \
+                 any other name"
+            }
             ProfilePart::Subject => "the subject isn't one of such a certificate",
             ProfilePart::KeyUsage => "a key of that kind has no such use",
             ProfilePart::Names => "none of the names of the device is that of a hardware module",

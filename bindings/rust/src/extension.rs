@@ -138,8 +138,9 @@ impl<'a> Extensions<'a> {
     /// # Errors
     /// As of [`find`](Extensions::find); [`Error::Malformed`] or [`Error::Overlength`] also where it can't be read.
     pub fn get<T: ExtensionValue<'a>>(&self) -> Result<Option<(bool, T)>, Error> {
-        let Some(found) = self.find(T::OID)? else {
-            return Ok(None);
+        let found = match self.find(T::OID)? {
+            Some(found) => found,
+            None => return Ok(None),
         };
         Ok(Some((found.critical(), T::from_der(found.value())?)))
     }

@@ -2,8 +2,9 @@
 //!
 //! The structs have the names and the fields of the header, and the calls its arguments (`in` is `input` here); `tests/header.rs` compares them.
 use crate::error::Error;
-use std::ffi::c_int;
 use std::fmt;
+use std::mem::size_of;
+use std::os::raw::c_int;
 use std::ptr;
 
 /// Asks a call, to which each slice in brackets is lent by its place and its length, and each value in parentheses goes as it is.

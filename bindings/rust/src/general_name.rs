@@ -96,8 +96,9 @@ impl<'a> GeneralName<'a> {
     /// # Errors
     /// [`Error::Malformed`] where the octets are no fields of such a name, or where a text has no characters of its type; [`Error::Memory`].
     pub fn edi_party_name(&self) -> Result<Option<EdiPartyName>, Error> {
-        let GeneralName::EdiPartyName(fields) = self else {
-            return Ok(None);
+        let fields = match self {
+            GeneralName::EdiPartyName(fields) => fields,
+            _ => return Ok(None),
         };
         let names = element(SEQUENCE, &element(context_elements(5), fields));
         let found = ffi::GENERAL_NAMES.over(&names).next();
@@ -122,8 +123,9 @@ impl<'a> GeneralName<'a> {
     /// The network of a name constraint, an address and the number of the bits that count: twice as many octets, of which the second half is a mask, ones
     /// and then zeros (RFC 5280 4.2.1.10).
     pub fn ip_network(&self) -> Option<(IpAddr, u32)> {
-        let GeneralName::IpAddress(octets) = self else {
-            return None;
+        let octets = match self {
+            GeneralName::IpAddress(octets) => octets,
+            _ => return None,
         };
         let (first, mask) = halves(octets)?;
         let ones = mask.iter().take_while(|octet| **octet == 0xff).count();

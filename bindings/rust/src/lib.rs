@@ -93,6 +93,16 @@ pub enum Profile {
 /// Reads a value of the type with that name, as `Certificate` or `Name`, under a profile, and writes it again: the same bytes, but for dates of a
 /// validity that RFC 5280 spells otherwise, under [`Profile::Rfc5280`].
 ///
+/// The types: AccessDescription, AlgorithmIdentifier, Any, Attribute, AttributeTypeAndValue, AuthorityInfoAccessSyntax, AuthorityKeyIdentifier, BaseCrlNumber,
+/// BasicConstraints, BitString, BmpString, CertPathControls, CertPolicies, CertReq, CertReqInfo, Certificate, CertificateIssuer, CertificateList,
+/// CertificatePolicies, CrlDistributionPoints, CrlNumber, CrlReason, DirectoryString, DisplayText, DistributionPoint, DistributionPointName, EdiPartyName,
+/// ExtendedKeyUsage, Extension, ExtensionReq, Extensions, FreshestCrl, GeneralName, GeneralNames, GeneralSubtree, GeneralizedTime, HardwareModuleName,
+/// Ia5String, InhibitAnyPolicy, Int, IssuerAltName, IssuingDistributionPoint, KeyUsage, Name, NameConstraints, NoticeReference, ObjectIdentifier, OctetString,
+/// OtherName, PkiPath, PolicyConstraints, PolicyInformation, PolicyMapping, PolicyMappings, PolicyQualifierInfo, PrintableString, PrivateKeyUsagePeriod,
+/// RdnSequence, Reasons, RelativeDistinguishedName, RevokedCert, SerialNumber, SignedCertificateTimestampList, SubjectAltName, SubjectDirectoryAttributes,
+/// SubjectInfoAccessSyntax, SubjectKeyIdentifier, SubjectPublicKeyInfo, TbsCertList, TbsCertificate, TeletexString, Time, TrustAnchorChoice, TrustAnchorInfo,
+/// Uint, UserNotice, UtcTime, Utf8String, Validity, Version, VisibleString, bool, u128, u16, u32, u64, u8.
+///
 /// ```
 /// use x509_rattle::{reencode, Error, Profile};
 ///

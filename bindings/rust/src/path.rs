@@ -208,7 +208,7 @@ fn verified<'a>(
             place,
             reason: FaultReason::Signature,
         };
-        if found.is_some_and(|fault| fault < of_signature) {
+        if matches!(found, Some(fault) if fault < of_signature) {
             break;
         }
         let certificate = CertificateRef::from_der(der)?;
@@ -288,14 +288,16 @@ impl Trusted<'_> {
     /// Why it gives no trust, as the library has found: an extension stands there twice, or the description of an anchor has no name, or a certificate of
     /// another.
     fn fault(&self) -> Result<Error, Error> {
-        let Trusted::Anchor(anchor) = self else {
-            return Ok(Error::Repeated);
+        let anchor = match self {
+            Trusted::Anchor(anchor) => anchor,
+            _ => return Ok(Error::Repeated),
         };
         if anchor.kind() != AnchorKind::Info {
             return Ok(Error::Repeated);
         }
-        let Some(controls) = anchor.path_controls() else {
-            return Ok(Error::UnnamedAnchor);
+        let controls = match anchor.path_controls() {
+            Some(controls) => controls,
+            None => return Ok(Error::UnnamedAnchor),
         };
         if let Some(certificate) = PathControls::from_der(controls)?.certificate {
             for oid in OF_ANCHORS {

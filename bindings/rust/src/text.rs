@@ -46,12 +46,15 @@ pub(crate) fn place_in_name(text: &str) -> Result<usize, Error> {
 
 /// Where the first number of the dotted text begins with which it is none's.
 pub(crate) fn place_in_oid(text: &str) -> Result<usize, Error> {
-    let Some((first, _)) = text.split_once('.') else {
-        return Ok(if is_one(&OID_FROM_TEXT, &format!("{text}.0"))? {
-            text.len()
-        } else {
-            0
-        });
+    let first = match text.split_once('.') {
+        Some((first, _)) => first,
+        None => {
+            return Ok(if is_one(&OID_FROM_TEXT, &format!("{text}.0"))? {
+                text.len()
+            } else {
+                0
+            })
+        }
     };
     if !is_one(&OID_FROM_TEXT, &format!("{first}.0"))? {
         return Ok(0);
@@ -77,10 +80,14 @@ const PARTS: [usize; 13] = [0, 4, 5, 7, 8, 10, 11, 13, 14, 16, 17, 19, 20];
 pub(crate) fn place_in_time(text: &str) -> Result<usize, Error> {
     let call: &View<u64> = &TIME_FROM_TEXT;
     for part in PARTS.windows(2) {
-        let [begin, end] = part else { continue };
+        let (begin, end) = match part {
+            [begin, end] => (begin, end),
+            _ => continue,
+        };
         let rest = MOMENT.get(*end..).ok_or(Error::Unexpected)?;
-        let Some(front) = text.get(..*end) else {
-            return Ok(text.len().min(*begin));
+        let front = match text.get(..*end) {
+            Some(front) => front,
+            None => return Ok(text.len().min(*begin)),
         };
         if call.of((front.to_owned() + rest).as_bytes()).is_err() {
             return Ok(*begin);

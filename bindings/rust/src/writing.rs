@@ -68,7 +68,7 @@ pub(crate) fn unsigned(octets: &[u8]) -> Vec<u8> {
 pub(crate) fn named_bits(identifier: u8, bits: u32) -> Vec<u8> {
     let octets = bits.reverse_bits().to_be_bytes();
     let used = 32 - bits.leading_zeros();
-    let len = used.div_ceil(8);
+    let len = (used + 7) / 8;
     let unused = len * 8 - used;
     // both are below 33
     let content: Vec<u8> = [unused as u8]

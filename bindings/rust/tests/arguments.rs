@@ -291,7 +291,7 @@ fn of_roots() -> BTreeSet<String> {
     let rows = rows! { it: CertificateCall;
         "CertificateProfile::Root signs_ocsp_responses", it.profile = Some(root(true)) => Ok(&[("2.5.29.15", "critical 03020186")]);
         "CertificateBuilder::new subject", it.subject = name("CN=S,O=O,C=DE") => refused(Error::NotInProfile(ProfilePart::Issuer));
-        "CertificateBuilder::new subject", (it.subject, it.issuer) = (name("CN=S"), name("CN=S")) => refused(Error::NotInProfile(ProfilePart::Subject));
+        "CertificateBuilder::new subject", (it.subject, it.issuer) = (name("CN=S"), name("CN=S")) => refused(Error::NotInProfile(ProfilePart::RootSubject));
         "CertificateBuilder::new issuer", it.issuer = name("CN=I") => refused(Error::NotInProfile(ProfilePart::Issuer));
         "CertificateBuilder::new subject_public_key_info", it.key = OTHER_KEY => Err(BuildError::OtherKey);
         "CertificateBuilder::build_as signer", it.signer.key = OTHER_KEY => Err(BuildError::OtherKey);
@@ -332,7 +332,7 @@ fn of_subordinates() -> BTreeSet<String> {
         "CertificateBuilder::build_as profile", it.profile = Some(CertificateProfile::Device { names: &[] }) =>
             Ok(&[("2.5.29.14", "none"), ("2.5.29.15", "critical 03020780"), ("2.5.29.19", "none"), ("2.5.29.37", "none"), ("order", "2.5.29.35 2.5.29.15")]);
         // the name of a root has an organization and a country
-        "CertificateBuilder::tbs_certificate_as profile", it.profile = Some(root(false)) => refused(Error::NotInProfile(ProfilePart::Subject));
+        "CertificateBuilder::tbs_certificate_as profile", it.profile = Some(root(false)) => refused(Error::NotInProfile(ProfilePart::RootSubject));
         // the AKI is of the SHA-1 digest of the octets of the issuer's key (RFC 5280 4.2.1.2), which is that of "abc" (RFC 3174 7.3)
         "CertificateBuilder::build_as signer", it.signer.key = OTHER_KEY => Ok(&[("2.5.29.35", "30168014a9993e364706816aba3e25717850c26c9cd0d89d")]);
         "CertificateBuilder::tbs_certificate_as issuer_key", it.issuer_key = Some(OTHER_KEY) => Ok(&[("is signed", "false")]);

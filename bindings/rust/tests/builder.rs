@@ -430,7 +430,7 @@ fn kinds_of_certificates() {
     assert_eq!(
         refused,
         Some(BuildError::Refused(Error::NotInProfile(
-            ProfilePart::Subject
+            ProfilePart::RootSubject
         )))
     );
 

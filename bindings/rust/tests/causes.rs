@@ -6,6 +6,7 @@ use x509_rattle::extension::{
     BasicConstraints, CertificateIssuer, CrlNumber, CrlReason, InvalidityDate,
     SubjectKeyIdentifier, ToExtension,
 };
+use x509_rattle::ProfilePart;
 use x509_rattle::{
     algorithm, oid, reencode, validate_path, BuildError, Certificate, CertificateBuilder, Crl,
     CrlBuilder, CrlEntryBuilder, Csr, CsrBuilder, Error, Name, ObjectIdentifier, PathError,
@@ -220,4 +221,14 @@ fn a_signer_that_changes_its_algorithm() {
     let changes = Any(Cell::new(0), [algorithm::ED25519, algorithm::ED448]);
     let made = builder(&"CN=a".parse().expect("a name")).build(&changes);
     assert_eq!(made.err(), Some(BuildError::Refused(Error::Algorithm)));
+}
+
+#[test]
+fn a_root_whose_subject_is_no_roots() {
+    let wanted = "a root's subject has a country, an organization and a common name, in that order, each alone in its relative name; `build` makes a root \
+                  of any other name";
+    assert_eq!(
+        Error::NotInProfile(ProfilePart::RootSubject).to_string(),
+        wanted
+    );
 }

@@ -79,7 +79,10 @@ pub fn collect<'a>(
     let mut rest = extensions;
     let mut list = Vec::with_capacity(alloc, FEW_EXTENSIONS)?;
     while let Some(extension) = rest.next() {
-        list.push(extension)?;
+        match list.push(extension) {
+            Ok(()) => {}
+            Err(_) => return Err(AllocError),
+        }
     }
     Ok(list)
 }

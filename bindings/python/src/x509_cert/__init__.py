@@ -114,6 +114,8 @@ from .request import (
 from .revocation import RevocationState, RevocationStatus, SignedCrl, may_sign_crls, path_revocation_statuses, revocation_status
 from .validation import ValidatedPath, validate_path
 
+__version__ = "0.1.0"
+
 __all__ = [
     "AccessDescription",
     "AlgorithmIdentifier",

@@ -3,6 +3,7 @@
 from __future__ import annotations
 
 import datetime
+import importlib
 from typing import Iterable, TypeVar
 
 _Kind = TypeVar("_Kind")
@@ -12,14 +13,43 @@ _EPOCH = datetime.datetime(1970, 1, 1, tzinfo=datetime.timezone.utc)
 
 def instance(given: object, kind: type[_Kind], what: str) -> _Kind:
     if not isinstance(given, kind):
-        raise TypeError(f"{what} is a {kind.__name__}, not a {type(given).__name__}")
+        raise TypeError(f"{what} must be {_a(kind)}, not {_a(type(given))}")
     return given
+
+
+def _a(kind: type) -> str:
+    """What an object of a type is called: those of packages whose names are the same are told apart."""
+    package = kind.__module__.partition(".")[0]
+    if package == __package__:
+        return f"an x509_cert.{kind.__name__}"
+    if package == "cryptography":
+        return f"cryptography's {kind.__name__}"
+    return f"{'an' if kind.__name__[:1].lower() in tuple('aeiou') else 'a'} {kind.__name__}"
+
+
+def named(given: object) -> str:
+    """What an object is called in a message."""
+    return _a(type(given))
+
+
+def der_of(given: object, kind: str) -> bytes | None:
+    """The DER of an object of `cryptography` whose type has this name; None of anything else."""
+    found = type(given)
+    if found.__name__ != kind or found.__module__.partition(".")[0] != "cryptography":
+        return None
+    encoded: bytes = given.public_bytes() if kind == "Name" else given.public_bytes(_der_encoding())  # type: ignore[attr-defined]
+    return encoded
+
+
+def _der_encoding() -> object:
+    """The encoding DER of `cryptography`."""
+    return getattr(importlib.import_module("cryptography.hazmat.primitives.serialization").Encoding, "DER")
 
 
 def whole(given: int, what: str) -> int:
     """An integer, which a bool isn't here."""
     if isinstance(given, bool):
-        raise TypeError(f"{what} is an int, not a bool")
+        raise TypeError(f"{what} must be an int, not a bool")
     return instance(given, int, what)
 
 
@@ -33,7 +63,7 @@ def whole_list(given: Iterable[int], what: str) -> list[int]:
 def octets(given: bytes, what: str) -> bytes:
     """Bytes, also those of a bytearray or a memoryview; of a number there are none."""
     if not isinstance(given, (bytes, bytearray, memoryview)):
-        raise TypeError(f"{what} is bytes, not a {type(given).__name__}")
+        raise TypeError(f"{what} must be bytes, not {_a(type(given))}")
     return bytes(given)
 
 
@@ -53,10 +83,10 @@ def some(given: Iterable[_Kind], kind: type[_Kind], what: str) -> list[_Kind]:
 def seconds(moment: datetime.datetime, what: str) -> int:
     """The seconds since 1970-01-01T00:00:00Z of a moment with a time zone, from then on, rounded down."""
     if instance(moment, datetime.datetime, what).utcoffset() is None:
-        raise ValueError(f"{what} has a time zone")
+        raise ValueError(f"{what} must have a time zone, as datetime.now(timezone.utc) has")
     found = (moment - _EPOCH) // datetime.timedelta(seconds=1)
     if found < 0:
-        raise ValueError(f"{what} is from 1970 on")
+        raise ValueError(f"{what} must be in 1970 or later")
     return found
 
 

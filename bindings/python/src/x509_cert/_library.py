@@ -40,7 +40,8 @@ class X509Error(ValueError):
         "x509_request_extensions": "the attribute that asks for extensions hasn't one value",
         "x509_path_validate": "the anchor has an extension twice",
         "x509_path_validate_under_anchor": "the anchor has an extension twice, no name, or the certificate of another",
-        "x509_build_root": "a root can't have that subject",
+        "x509_build_root": "a root's subject has a country, an organization and a common name, in that order, each alone in its relative name; `sign` makes a "
+        "root of any other name",
         "x509_build_device": "none of the names is that of a hardware module",
         "x509_build_crl": "the issuer's certificate has an SKI twice",
         "x509_assemble": "the signed part has another algorithm",

@@ -40,6 +40,7 @@ def blocks(data: bytes, labels: tuple[str, ...]) -> list[bytes]:
     """The DER in each block with one of these labels, in order; other blocks, and what stands between blocks, are passed over. A ValueError where there is
     none, one has no end, or one isn't base64."""
     found: list[bytes] = []
+    others: list[str] = []
     label: str | None = None
     lines: list[bytes] = []
     for line in map(bytes.strip, octets(data, "PEM").splitlines()):
@@ -48,14 +49,34 @@ def blocks(data: bytes, labels: tuple[str, ...]) -> list[bytes]:
         elif _label(line, _END) == label:
             if label in labels:
                 found.append(_decoded(lines, label))
+            else:
+                others.append(label)
             label = None
         else:
             lines.append(line)
     if label in labels:
         raise ValueError(f"the PEM of a {label} has no end")
     if not found:
-        raise ValueError(f"no PEM of a {labels[0]} is there; DER is read by the calls with load_der_ in front")
+        raise ValueError(f"no PEM of a {labels[0]} is there{_instead(others)}")
     return found
+
+
+# which call reads the PEM with a label (RFC 7468)
+_READERS = {
+    "CERTIFICATE": "load_pem_x509_certificate",
+    "X509 CERTIFICATE": "load_pem_x509_certificate",
+    "X509 CRL": "load_pem_x509_crl",
+    "CERTIFICATE REQUEST": "load_pem_x509_csr",
+    "NEW CERTIFICATE REQUEST": "load_pem_x509_csr",
+}
+
+
+def _instead(labels: list[str]) -> str:
+    """What stands there in its place, and what reads that."""
+    if not labels:
+        return "; DER is read by the calls with load_der_ in front"
+    reader = _READERS.get(labels[0])
+    return f", but one of a {labels[0]}" + (f", which {reader} reads" if reader else "")
 
 
 def _label(line: bytes, mark: bytes) -> str | None:
@@ -72,6 +93,9 @@ def _decoded(lines: list[bytes], label: str) -> bytes:
 
 
 def refuse_pem(data: bytes, call: str, reader: str) -> None:
-    """An X509Error where what should be DER looks like PEM, which names the call that reads that."""
-    if data.lstrip().startswith(_BEGIN):
-        raise X509Error(call, MALFORMED, f": this looks like PEM, which {reader} reads")
+    """An X509Error where what should be DER looks like PEM, which names the call that reads that: by its label, or else this one."""
+    begun = data.lstrip()
+    if begun.startswith(_BEGIN):
+        label = _label(begun.splitlines()[0].strip(), _BEGIN)
+        named = f" of a {label}" if label in _READERS else ""
+        raise X509Error(call, MALFORMED, f": this looks like PEM{named}, which {_READERS.get(label or '', reader)} reads")

@@ -25,12 +25,12 @@ from ._given import instance, listed, octets, whole, whole_seconds
 from ._library import RequestAttributeView, fill, walk
 from ._writing import identifier_of
 from ._numbers import serial_element
-from .certificate import Certificate
+from .certificate import Certificate, certificate_of
 from .crl import CertificateRevocationList, RevokedCertificate
 from .extensions import AuthorityKeyIdentifier, CRLNumber, KeyUsage, SubjectAlternativeName, SubjectKeyIdentifier
 from .general_name import GeneralName
 from .key import AlgorithmIdentifier
-from .name import ASN1Type, Name
+from .name import ASN1Type, Name, name_of
 from .oid import AttributeOID, CertificatePoliciesOID, ExtensionOID, ObjectIdentifier
 from .request import CertificateSigningRequest
 
@@ -134,10 +134,10 @@ class CertificateBuilder(_WithExtensions):
         return self._with(_serial_number=number)
 
     def issuer_name(self, name: Name) -> CertificateBuilder:
-        return self._with(_issuer_name=instance(name, Name, "the issuer"))
+        return self._with(_issuer_name=name_of(name, "the issuer"))
 
     def subject_name(self, name: Name) -> CertificateBuilder:
-        return self._with(_subject_name=instance(name, Name, "the subject"))
+        return self._with(_subject_name=name_of(name, "the subject"))
 
     def public_key(self, public_key: AnyPublicKey) -> CertificateBuilder:
         """The key of the subject."""
@@ -189,7 +189,11 @@ class CertificateBuilder(_WithExtensions):
         rsa_padding: Any = None,
     ) -> Certificate:
         """A root (CA/Browser Forum, Baseline Requirements 7.1.2.1), which is its own issuer: the library makes AKI, basic constraints, key usage and SKI,
-        behind the extensions that were added. A ValueError where an issuer was given, an X509Error where a root can't have that name."""
+        behind the extensions that were added. A ValueError where an issuer was given.
+
+        An X509Error where a root can't have that subject (7.1.4.2): it has a country, an organization and a common name, in that order, and between the first
+        two may have a state, a locality, a postal code and a street address; each is there once, alone in its relative name. `sign` makes a root of any name,
+        whose issuer and extensions you give."""
         if self._issuer_name is not None:
             raise ValueError("a root is its own issuer: none can be given")
         how = _How(algorithm, signer, private_key, rsa_padding)
@@ -298,13 +302,13 @@ class CertificateRevocationListBuilder(_WithExtensions):
         """The certificate of the authority that signs it."""
         if self._issuer_name is not None:
             raise ValueError("issuer_name was given before")
-        return self._with(_issuer=instance(certificate, Certificate, "the issuer"))
+        return self._with(_issuer=certificate_of(certificate, "the issuer"))
 
     def issuer_name(self, name: Name) -> CertificateRevocationListBuilder:
         """The name of the authority that signs it."""
         if self._issuer is not None:
             raise ValueError("issuer was given before")
-        return self._with(_issuer_name=instance(name, Name, "the issuer"))
+        return self._with(_issuer_name=name_of(name, "the issuer"))
 
     def crl_number(self, number: int) -> CertificateRevocationListBuilder:
         if whole(number, "a CRL number") < 0:
@@ -425,7 +429,7 @@ class CertificateSigningRequestBuilder(_WithExtensions):
         self._attributes: tuple[tuple[ObjectIdentifier, bytes], ...] = ()
 
     def subject_name(self, name: Name) -> CertificateSigningRequestBuilder:
-        return self._with(_subject_name=instance(name, Name, "the subject"))
+        return self._with(_subject_name=name_of(name, "the subject"))
 
     def public_key(self, public_key: AnyPublicKey) -> CertificateSigningRequestBuilder:
         """The key of the subject, by which it is signed; where a private key of `cryptography` signs, it may be left out."""

@@ -9,7 +9,7 @@ import importlib
 import secrets
 from typing import Any, NamedTuple, Sequence
 
-from ._given import instance, octets
+from ._given import der_of, instance, octets
 from ._keyed import Keyed
 from ._library import FAULT, OK, RAW, RFC5280, CertificateView, PathFaultView, SignatureView, Span, X509Error, fill, status_of, view
 from ._numbers import moment, whole_number
@@ -120,7 +120,8 @@ class Certificate(Keyed, Signed):
         where the name is another, or the algorithm is another than in the signed part (RFC 5280 4.1.1.2) or none for such keys; InvalidSignature of
         `cryptography` where the signature is none, a TypeError where the issuer's key is of a kind that verifies none. Nothing else is looked at: no date, and
         not whether the issuer is an authority."""
-        fault = path_fault(instance(issuer, Certificate, "the issuer")._data, [self._data], int(self._view.not_before))
+        issuer = certificate_of(issuer, "the issuer")
+        fault = path_fault(issuer._data, [self._data], int(self._view.not_before))
         if fault is not None and fault[1] in _UNFIT:
             raise ValueError(f"the certificate {_UNFIT[fault[1]]}")
         self._verify(issuer.public_key_bytes)
@@ -161,6 +162,12 @@ def random_serial_number() -> int:
     return secrets.randbelow((1 << 159) - 1) + 1
 
 
+def certificate_of(given: object, what: str) -> Certificate:
+    """A Certificate, or that of `cryptography` by its DER."""
+    data = der_of(given, "Certificate")
+    return instance(given, Certificate, what) if data is None else Certificate(data)
+
+
 def path_fault(anchor: bytes, path: Sequence[bytes], moment: int) -> tuple[int, int] | None:
     """The place and the number of the first fault of a path that isn't one of a signature."""
     fault = PathFaultView()
@@ -177,7 +184,18 @@ _UNFIT = {2: "has another algorithm in its signed part", 3: "has another issuer 
 
 
 def reencode(kind: str, data: bytes, raw: bool = True) -> bytes:
-    """Reads a value of the type with that name, and writes it again: the same bytes, but without `raw` the dates of a validity as RFC 5280 spells them."""
+    """Reads a value of the type with that name, and writes it again: the same bytes, but without `raw` the dates of a validity as RFC 5280 spells them.
+
+    The types: AccessDescription, AlgorithmIdentifier, Any, Attribute, AttributeTypeAndValue, AuthorityInfoAccessSyntax, AuthorityKeyIdentifier, BaseCrlNumber,
+    BasicConstraints, BitString, BmpString, CertPathControls, CertPolicies, CertReq, CertReqInfo, Certificate, CertificateIssuer, CertificateList,
+    CertificatePolicies, CrlDistributionPoints, CrlNumber, CrlReason, DirectoryString, DisplayText, DistributionPoint, DistributionPointName, EdiPartyName,
+    ExtendedKeyUsage, Extension, ExtensionReq, Extensions, FreshestCrl, GeneralName, GeneralNames, GeneralSubtree, GeneralizedTime, HardwareModuleName,
+    Ia5String, InhibitAnyPolicy, Int, IssuerAltName, IssuingDistributionPoint, KeyUsage, Name, NameConstraints, NoticeReference, ObjectIdentifier, OctetString,
+    OtherName, PkiPath, PolicyConstraints, PolicyInformation, PolicyMapping, PolicyMappings, PolicyQualifierInfo, PrintableString, PrivateKeyUsagePeriod,
+    RdnSequence, Reasons, RelativeDistinguishedName, RevokedCert, SerialNumber, SignedCertificateTimestampList, SubjectAltName, SubjectDirectoryAttributes,
+    SubjectInfoAccessSyntax, SubjectKeyIdentifier, SubjectPublicKeyInfo, TbsCertList, TbsCertificate, TeletexString, Time, TrustAnchorChoice, TrustAnchorInfo,
+    Uint, UserNotice, UtcTime, Utf8String, Validity, Version, VisibleString, bool, u128, u16, u32, u64, u8.
+    """
     return fill("x509_reencode", kind.encode("ascii"), ctypes.c_uint32(RAW if raw else RFC5280), octets(data, "a value"))
 
 

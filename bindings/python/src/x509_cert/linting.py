@@ -5,8 +5,9 @@ from __future__ import annotations
 import dataclasses
 import enum
 
+from ._given import der_of, named
 from ._library import FindingView, Span, fill, walk
-from .certificate import Certificate
+from .certificate import Certificate, certificate_of
 from .crl import CertificateRevocationList
 from .request import CertificateSigningRequest, TrustAnchor
 
@@ -46,9 +47,12 @@ _CALLS = {
 def lint(given: Certificate | CertificateRevocationList | CertificateSigningRequest | TrustAnchor) -> list[Finding]:
     """The rules that the certificate, the CRL (RFC 5280), the CSR (RFC 2986, RFC 2985) or the trust anchor (RFC 5914) breaks beyond the grammar, in the order of
     the rules; none where it breaks none."""
+    given = given if der_of(given, "Certificate") is None else certificate_of(given, "what is linted")
     call = next((call for kind, call in _CALLS.items() if isinstance(given, kind)), None)
     if call is None:
-        raise TypeError(f"a Certificate, a CertificateRevocationList, a CertificateSigningRequest or a TrustAnchor is linted, not a {type(given).__name__}")
+        raise TypeError(
+            f"what is linted must be an x509_cert.Certificate, CertificateRevocationList, CertificateSigningRequest or TrustAnchor, not {named(given)}"
+        )
     lines = fill(call, given.public_bytes())
 
     def text(part: Span) -> str:

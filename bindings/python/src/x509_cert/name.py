@@ -6,7 +6,7 @@ import ctypes
 import enum
 from typing import Iterable, Iterator
 
-from ._given import instance, listed, octets
+from ._given import der_of, instance, listed, octets
 from ._library import MALFORMED, AttributeView, ElementView, Span, X509Error, fill, number, walk
 from ._pem import Encoding, encoded
 from ._texts import place_in_name, read_text
@@ -199,7 +199,7 @@ class Name:
         """Whether the names match (RFC 5280 7.1): they have as many relative names, in order, and in each as many attributes, in any order, of the same types,
         whose values are the same or are texts that differ in case, in spaces at their ends or in how many stand within alone, as RFC 4518 prepares texts. `==`
         compares the bytes."""
-        return number("x509_names_match", self._data, instance(other, Name, "the other name").public_bytes()) == 1
+        return number("x509_names_match", self._data, name_of(other, "the other name").public_bytes()) == 1
 
     @property
     def rdns(self) -> list[RelativeDistinguishedName]:
@@ -228,6 +228,12 @@ class Name:
 
     def __repr__(self) -> str:
         return f"<Name({self.rfc4514_string()!r})>"
+
+
+def name_of(given: object, what: str) -> Name:
+    """A Name, or that of `cryptography` by its DER."""
+    data = der_of(given, "Name")
+    return instance(given, Name, what) if data is None else Name(data)
 
 
 def _members(given: Iterable[NameAttribute | RelativeDistinguishedName]) -> list[NameAttribute | RelativeDistinguishedName]:

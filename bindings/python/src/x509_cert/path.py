@@ -7,7 +7,7 @@ from typing import Callable, Iterable
 
 from . import _cryptography
 from ._given import octets, seconds
-from .certificate import Certificate, path_fault
+from .certificate import Certificate, certificate_of, path_fault
 from .key import AlgorithmIdentifier
 
 
@@ -41,7 +41,7 @@ def check_path(
     revocation aren't looked at.
     """
     begun = seconds(moment, "the moment")
-    anchor = anchor if isinstance(anchor, Certificate) else Certificate(anchor)
+    anchor = Certificate(_encoding(anchor, "the anchor"))
     given = _encodings(path)
     return _verified(anchor.public_key_bytes, given, path_fault(anchor.public_bytes(), given, begun), verify)
 
@@ -49,10 +49,17 @@ def check_path(
 def _encodings(path: Iterable[Certificate | bytes]) -> list[bytes]:
     if isinstance(path, (bytes, bytearray, memoryview)):
         raise TypeError("a path is a list of certificates, not the bytes of one")
-    given = [it.public_bytes() if isinstance(it, Certificate) else octets(it, "a certificate") for it in path]
+    given = [_encoding(it, "a certificate") for it in path]
     if not given:
         raise ValueError("a path has a certificate")
     return given
+
+
+def _encoding(given: Certificate | bytes, what: str) -> bytes:
+    """The DER of a certificate, which is one of the package or of `cryptography`, or its DER."""
+    if isinstance(given, (bytes, bytearray, memoryview)):
+        return octets(given, what)
+    return certificate_of(given, what).public_bytes()
 
 
 def _verified(key: bytes, path: list[bytes], fault: tuple[int, int] | None, verify: Verifier | None) -> list[Certificate]:

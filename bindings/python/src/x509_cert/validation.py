@@ -8,11 +8,11 @@ import datetime
 from typing import Iterable
 
 from ._der import SEQUENCE, element
-from ._given import instance, listed, octets, seconds
+from ._given import der_of, instance, listed, octets, seconds
 from ._library import FAULT, OK, PathAnswerView, PathSettings, X509Error, status_of
 from ._writing import identifier_of
-from .certificate import Certificate
-from .name import Name
+from .certificate import Certificate, certificate_of
+from .name import Name, name_of
 from .oid import ObjectIdentifier
 from .path import Verifier, _encodings, _verified
 from .policies import CertificatePolicies
@@ -102,13 +102,14 @@ def _accepted(given: Iterable[ObjectIdentifier] | None) -> bytes:
 
 def _trusted(anchor: Certificate | TrustAnchor | tuple[Name, bytes]) -> tuple[str, tuple[bytes, ...], bytes]:
     """The call under an anchor, what that is given of it, and its public key."""
-    if isinstance(anchor, Certificate):
+    if isinstance(anchor, Certificate) or der_of(anchor, "Certificate") is not None:
+        anchor = certificate_of(anchor, "the anchor")
         return "x509_path_validate", (anchor.public_bytes(),), anchor.public_key_bytes
     if isinstance(anchor, TrustAnchor):
         return "x509_path_validate_under_anchor", (anchor.public_bytes(),), anchor.public_key_bytes
     if not isinstance(anchor, tuple) or len(anchor) != 2:
-        raise TypeError("an anchor is a Certificate, a TrustAnchor, or a Name and the DER of a public key")
-    name, key = instance(anchor[0], Name, "the name of an anchor"), octets(anchor[1], "the public key of an anchor")
+        raise TypeError("an anchor must be a Certificate, a TrustAnchor, or a pair of a Name and the DER of a public key")
+    name, key = name_of(anchor[0], "the name of an anchor"), octets(anchor[1], "the public key of an anchor")
     return "x509_path_validate_under_key", (name.public_bytes(), key), key
 
 

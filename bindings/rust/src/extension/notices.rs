@@ -69,8 +69,9 @@ impl<'a> PolicyQualifierInfo<'a> {
 
 /// The reference of a notice, where it has one.
 fn reference(view: UserNoticeView, notice: &[u8]) -> Result<Option<NoticeReference<'_>>, Error> {
-    let Some(organization) = view.organization.part(notice)? else {
-        return Ok(None);
+    let organization = match view.organization.part(notice)? {
+        Some(organization) => organization,
+        None => return Ok(None),
     };
     let notice_numbers = view.notice_numbers.part(notice)?.map(numbers).transpose()?;
     Ok(Some(NoticeReference {

@@ -1,7 +1,7 @@
 //! The calls of `include/x509.h` that build, and safe ways to make them.
 use super::{fill, Fill};
 use crate::error::{Error, ProfilePart};
-use std::ffi::c_int;
+use std::os::raw::c_int;
 
 #[rustfmt::skip]
 extern "C" {
@@ -121,7 +121,7 @@ pub(crate) fn root(
     it: &CertificateFields<'_>,
     signs_ocsp_responses: bool,
 ) -> Result<Vec<u8>, Error> {
-    filled!(Error::NotInProfile(ProfilePart::Subject), x509_build_root: [it.serial_number], [it.algorithm], (it.not_before), (it.not_after),
+    filled!(Error::NotInProfile(ProfilePart::RootSubject), x509_build_root: [it.serial_number], [it.algorithm], (it.not_before), (it.not_after),
         [it.subject], [it.key], (u32::from(signs_ocsp_responses)), [it.extensions])
 }
 
