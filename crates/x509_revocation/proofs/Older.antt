@@ -87,7 +87,7 @@ pub older_told : (x y : Crl) (n m : Option ℕ) (b e : Bool) → IsNumbered x n 
 older_told x y n m b e first second below early = (
   (λ is. (n, m, first, second, below_so n m (IsTrue e) (this_second x < this_second y) early.0 (below.0 is))),
   (λ (p, q, third, fourth, h).
-  let one = subst (λ v. IsBelow v q (this_second x < this_second y)) (one_numbered x p n third first) h in
-  let both = subst (λ v. IsBelow n v (this_second x < this_second y)) (one_numbered y q m fourth second) one in
-  below.1 (below_so n m (this_second x < this_second y) (IsTrue e) early.1 both)),
+      let one = subst (λ v. IsBelow v q (this_second x < this_second y)) (one_numbered x p n third first) h in
+      let both = subst (λ v. IsBelow n v (this_second x < this_second y)) (one_numbered y q m fourth second) one in
+      below.1 (below_so n m (this_second x < this_second y) (IsTrue e) early.1 both)),
 )

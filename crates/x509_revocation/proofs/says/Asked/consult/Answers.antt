@@ -52,8 +52,8 @@ returns-then-not-is_signed g c = λ certificate all given reasons lends lents le
     let signed = c.is_signed.ensures given.crl lent.signer lent.lends.crl (anchored c.args.given.now given lent) in
     inl (
       (λ others revoked says more.
-      let own = (signed_by accepts given.signer lent.signer given.bytes given.crl lent.is).1 says.signed in
-      true≢false (sym (signed.1 (subst (λ (b : List ℕ). IsSignedBy accepts lent.signer b given.crl) (sym lent.lends.bytes) own)) ∙ c.if-not-is_signed.true)),
+          let own = (signed_by accepts given.signer lent.signer given.bytes given.crl lent.is).1 says.signed in
+          true≢false (sym (signed.1 (subst (λ (b : List ℕ). IsSignedBy accepts lent.signer b given.crl) (sym lent.lends.bytes) own)) ∙ c.if-not-is_signed.true)),
       refl,
     )
 
@@ -63,8 +63,8 @@ returns-then-not-is_current g c = λ certificate all given reasons lends lents l
     let current = c.in_ok-is_current.ensures certificate all given lends lents lent in
     inl (
       (λ others revoked says more.
-      let here = subst (λ l. All (λ other. Replaces asked (is_indirect l) other given → ⊥) all) (one_list given.crl says.list c.args.list.now says.covers.has_list covers.has_list) says.current in
-      let so = subst (λ (b : Bool). All (λ other. Replaces asked b other given → ⊥) all) (sym c.is_indirect-indirect.ensures) here in
-      true≢false (sym (current.1 so) ∙ c.if-not-is_current.true)),
+          let here = subst (λ l. All (λ other. Replaces asked (is_indirect l) other given → ⊥) all) (one_list given.crl says.list c.args.list.now says.covers.has_list covers.has_list) says.current in
+          let so = subst (λ (b : Bool). All (λ other. Replaces asked b other given → ⊥) all) (sym c.is_indirect-indirect.ensures) here in
+          true≢false (sym (current.1 so) ∙ c.if-not-is_current.true)),
       refl,
     )
