@@ -26,7 +26,8 @@ fn openssl(folder: &Path, words: &[&str]) -> io::Result<Vec<u8>> {
         .output()?;
     if !ended.status.success() {
         let said = String::from_utf8_lossy(&ended.stderr);
-        return Err(io::Error::other(format!("openssl {words:?}: {said}")));
+        let said = format!("openssl {words:?}: {said}");
+        return Err(io::Error::new(io::ErrorKind::Other, said));
     }
     Ok(ended.stdout)
 }
