@@ -824,7 +824,7 @@ typedef struct {
 
 /* A flag of what is asked: a CRL is in date that doesn't say by when the next one will be issued, which RFC 5280 5.1.2.5 wants each to say. */
 #define X509_REVOCATION_WITHOUT_NEXT_UPDATE 1
-/* Another, added to it: delta CRLs are used (RFC 5280 5.2.4). They are given among the others, and the first one that fits a complete CRL is asked before it:
+/* Another, added to it: delta CRLs are used (RFC 5280 5.2.4). They are given among the others, and the newest one that fits a complete CRL is asked before it:
  * it has its issuer, its IssuingDistributionPoint and its AuthorityKeyIdentifier, a base that isn't later and a number that is, and is in date. Its signer has
  * to be that of the complete one (6.3.3 (h)): so verify it with that key. */
 #define X509_REVOCATION_USE_DELTAS 2
@@ -862,11 +862,12 @@ typedef struct {
  *
  * The CRLs, and the names and the keys of their signers, are parts of in[0..len), which may have other bytes too, and two CRLs may share a part. They are asked
  * in the order of `crls`, up to the first that revokes the certificate, or until no reason is left; one that covers no reason that those before it left isn't
- * used, so of several CRLs for the same reasons the latest comes first. A CRL is used where it is in date; the signer's name is its issuer, as x509_names_match
- * compares; the algorithm in its signed part is the one outside; it is that of a distribution point of the certificate, or of its issuer; the certificate is
- * within the scope that its IssuingDistributionPoint states; it is no delta CRL, but where these are used and it fits one; and neither it nor one of its
- * entries has a critical extension that isn't known. crates/x509_revocation says each of these in full. `settings_size` is the size of `*settings`. An attacker
- * who withholds a CRL makes the status X509_UNDETERMINED: so treat that as your policy says, and not as X509_UNREVOKED.
+ * used. Of several complete CRLs for one scope, of one issuer, with one IssuingDistributionPoint or none, and verified with one key, the newest counts wherever
+ * it stands: that with the higher CRL number, or with the same number, or none, and a later thisUpdate (5.2.3). A CRL is used where it is in date; the signer's
+ * name is its issuer, as x509_names_match compares; the algorithm in its signed part is the one outside; it is that of a distribution point of the certificate,
+ * or of its issuer; the certificate is within the scope that its IssuingDistributionPoint states; it is no delta CRL, but where these are used and it fits one;
+ * and neither it nor one of its entries has a critical extension that isn't known. crates/x509_revocation says each of these in full. `settings_size` is the
+ * size of `*settings`. An attacker who withholds a CRL makes the status X509_UNDETERMINED: so treat that as your policy says, and not as X509_UNREVOKED.
  *
  * X509_VALUE where there are no settings, as said there, or `moment` is after 9999-12-31T23:59:59Z; X509_OVERLENGTH or X509_MALFORMED where decoding the
  * certificate answers that; of the CRLs that are verified X509_FAILED where a part isn't within the bytes, and X509_OVERLENGTH or X509_MALFORMED where decoding

@@ -1,5 +1,5 @@
 /* Says whether CRLs of a certificate's issuer say that it is revoked at a moment, where OpenSSL's libcrypto verifies their signatures. That the issuer's
- * certificate is valid, as `path validate` says, is looked at before. Of several CRLs the latest comes first.
+ * certificate is valid, as `path validate` says, is looked at before. Of several CRLs for one scope the newest counts.
  *
  * It prints `unrevoked`; `undetermined`, where the CRLs don't say so of all reasons; `revoked CRL REASON DATE`, with the place of the CRL, from 0, the reason
  * code and the date in seconds since 1970-01-01T00:00:00Z; or `refused STATUS`. It ends with 0 where the certificate is unrevoked, and with 1 else.

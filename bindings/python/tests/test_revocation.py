@@ -8,6 +8,7 @@ from __future__ import annotations
 
 import datetime
 import hashlib
+import itertools
 import unittest
 from typing import Any, Iterable
 
@@ -17,7 +18,7 @@ import x509_cert as x509
 try:
     from cryptography import x509 as theirs
     from cryptography.hazmat.primitives import hashes, serialization
-    from cryptography.hazmat.primitives.asymmetric import ec
+    from cryptography.hazmat.primitives.asymmetric import ec, padding, rsa
 except ImportError:  # what is asked of it is left out then
     theirs = None  # type: ignore[assignment]
 
@@ -113,6 +114,33 @@ class OneCertificate(unittest.TestCase):
         lasting = listed(AUTHORITY, KEYS[1], next_update=False)
         self.undetermined(self.status(lasting))
         self.assertTrue(self.status(lasting, without_next_update=True).is_unrevoked)
+
+    def test_the_newest_counts(self) -> None:
+        """Of CRLs for one scope under one key the one with the highest number, in whatever order they stand (RFC 5280 5.2.3); so of delta CRLs too."""
+
+        def numbered(number: int, *revoked: int, base: int | None = None, reason: Any = None) -> ours.CertificateRevocationList:
+            builder = ours.CertificateRevocationListBuilder().issuer(AUTHORITY).crl_number(number).last_update(NOW).next_update(NOW + HOUR)
+            for serial in revoked:
+                builder = builder.add_revoked_certificate(ours.RevokedCertificate(serial, NOW - HOUR, reason))
+            if base is not None:
+                builder = builder.add_extension(ours.DeltaCRLIndicator(base), critical=True)
+            return builder.sign(ED25519, sign(KEYS[1]))
+
+        older, newer = numbered(3, 3), numbered(4)
+        for crls in ([older, newer], [newer, older]):
+            self.assertTrue(self.status(*crls).is_unrevoked)
+        adds, removes = numbered(5, 3, base=3), numbered(6, 3, base=3, reason=ours.ReasonFlags.remove_from_crl)
+        self.assertTrue(self.status(newer, adds, use_deltas=True).is_revoked)
+        for crls in itertools.permutations([older, newer, adds, removes]):
+            self.assertTrue(self.status(*crls, use_deltas=True).is_unrevoked)
+        again = numbered(7, 3, base=4)
+        for crls in itertools.permutations([newer, adds, removes, again]):
+            found = self.status(*crls, use_deltas=True)
+            self.assertTrue(found.is_revoked and crls[found.crl or 0] is again)
+        # one that isn't signed, or not under the same key, takes no place
+        for by in (2, 3):
+            stranger = listed(AUTHORITY, KEYS[by], at=NOW + datetime.timedelta(0))
+            self.assertTrue(self.status(older, stranger).is_revoked)
 
     def test_some_reasons(self) -> None:
         point = ours.IssuingDistributionPoint(None, None, False, False, [ours.ReasonFlags.key_compromise], False, False)
@@ -232,6 +260,21 @@ class Paths(unittest.TestCase):
         halves = [listed(one, KEYS[3], extensions=[users]), listed(two, KEYS[4], extensions=[others])]
         self.assertEqual(self.states([SPLIT, SPLIT_LEAF], [listed(ROOT, KEYS[0]), *halves], one, two), "u?")
 
+    def test_signers_in_a_circle(self) -> None:
+        # a signer whose status its own CRL tells, and one below it that is told by the first alone: each is asked for the CRL of the other
+        top = made(8, "CN=Root", KEYS[0], "CN=Root", KEYS[3], ours.KeyUsage(crl_sign=True))
+        below = made(9, "CN=Root", KEYS[0], "CN=Split", KEYS[4], ours.KeyUsage(crl_sign=True))
+        path, of_split = [SPLIT, SPLIT_LEAF], listed(below, KEYS[4])
+        for revoked, states in (((), "uu"), ((4,), "ru"), ((9,), "u?"), ((8,), "??")):
+            of_top = listed(top, KEYS[3], *revoked)
+            for crls in ([of_top, of_split], [of_split, of_top]):
+                for others in ([top, below], [below, top]):
+                    with self.subTest(revoked=revoked, first=crls[0] is of_top, top=others[0] is top):
+                        self.assertEqual(self.states(path, crls, *others), states)
+        of_top, revokes = listed(top, KEYS[3]), listed(below, KEYS[4], 6)
+        for crls in ([of_top, revokes], [revokes, of_top]):
+            self.assertEqual(self.states(path, crls, top, below), "ur")
+
     def test_many_certificates_end(self) -> None:
         crowd = [made(20 + n, "CN=Crowd", KEYS[3], "CN=Crowd", KEYS[3], CA, ours.KeyUsage(key_cert_sign=True, crl_sign=n % 2 == 0)) for n in range(12)]
         crowd += [made(40 + n, "CN=Crowd", KEYS[3], "CN=Split", KEYS[3], ours.KeyUsage(crl_sign=True)) for n in range(3)]
@@ -273,6 +316,50 @@ class SignedByCryptography(unittest.TestCase):
         self.assertFalse(is_good(root, path[::-1], good, [], NOW))
         found = ours.revocation_status(path[1], [ours.SignedCrl(good[1], path[0])], NOW)
         self.assertTrue(found.is_unrevoked)
+
+
+@unittest.skipIf(theirs is None, "cryptography isn't installed")
+class KeysOfPss(unittest.TestCase):
+    """A key of RSASSA-PSS with parameters verifies signatures by its hash and its mask alone, with a salt that isn't shorter (RFC 4055 1.2, 3.3)."""
+
+    def setUp(self) -> None:
+        self.key = rsa.generate_private_key(65537, 1024)
+
+    def signed(self, hashed: Any, salt: int) -> tuple[bytes, Any]:
+        """The algorithm, and what signs so."""
+        pad = padding.PSS(padding.MGF1(hashed), salt)
+        request = theirs.CertificateSigningRequestBuilder().subject_name(theirs.Name([])).sign(self.key, hashed, rsa_padding=pad)
+        der = request.public_bytes(serialization.Encoding.DER)
+        return ours.load_der_x509_csr(der).signature_algorithm_bytes, lambda part: self.key.sign(part, pad, hashed)
+
+    def info(self, algorithm: bytes) -> bytes:
+        """The SubjectPublicKeyInfo of the key with that algorithm."""
+        plain = self.key.public_key().public_bytes(serialization.Encoding.DER, serialization.PublicFormat.SubjectPublicKeyInfo)
+        bits = b"\x00" + ours.PublicKey(plain).bits
+        content = algorithm + b"\x03\x81" + bytes([len(bits)]) + bits
+        return b"\x30\x81" + bytes([len(content)]) + content if len(content) < 256 else b"\x30\x82" + len(content).to_bytes(2, "big") + content
+
+    def is_valid(self, key: bytes, hashed: Any, salt: int) -> bool:
+        algorithm, signer = self.signed(hashed, salt)
+        builder = ours.CertificateBuilder().serial_number(2).issuer_name(name("CN=Root")).subject_name(name("CN=Leaf")).public_key(KEYS[2])
+        leaf = builder.not_valid_before(NOW - HOUR).not_valid_after(NOW + HOUR).sign(algorithm, signer)
+        try:
+            ours.validate_path((name("CN=Root"), key), [leaf], NOW)
+        except ours.PathFault:
+            return False
+        return True
+
+    def test_parameters_of_keys(self) -> None:
+        sha256, sha384 = hashes.SHA256(), hashes.SHA384()
+        of_key = self.info(self.signed(sha256, 32)[0])
+        self.assertTrue(self.is_valid(of_key, sha256, 32))
+        self.assertTrue(self.is_valid(of_key, sha256, 40))
+        self.assertFalse(self.is_valid(of_key, sha256, 20))
+        self.assertFalse(self.is_valid(of_key, sha384, 48))
+        # a key without parameters, and one of RSA, ask for none
+        for open_key in (self.info(bytes.fromhex("300b06092a864886f70d01010a")), self.info(bytes.fromhex("300d06092a864886f70d0101010500"))):
+            self.assertTrue(self.is_valid(open_key, sha256, 20))
+            self.assertTrue(self.is_valid(open_key, sha384, 48))
 
 
 if __name__ == "__main__":

@@ -10,7 +10,7 @@ use crate::name::NameRef;
 use crate::path::{validate_path, PathError, PathSettings, Trusted, Validated, Verifier};
 use crate::time::{moment, seconds};
 use std::cmp::Reverse;
-use std::collections::HashMap;
+use std::collections::{HashMap, HashSet};
 use std::time::SystemTime;
 
 /// What CRLs say of a certificate. Only [`Unrevoked`](RevocationStatus::Unrevoked) says that it may be used: who withholds a CRL makes its status undetermined.
@@ -112,7 +112,7 @@ impl RevocationSettings {
         self.flag(WITHOUT_NEXT_UPDATE, is_taken)
     }
 
-    /// Whether delta CRLs are used that are among the CRLs (RFC 5280 5.2.4): the first one that fits a complete CRL is asked before it; its signer has to be
+    /// Whether delta CRLs are used that are among the CRLs (RFC 5280 5.2.4): the newest one that fits a complete CRL is asked before it; its signer has to be
     /// that of the complete one (6.3.3 (h)).
     pub fn use_deltas(&mut self, are_used: bool) -> &mut RevocationSettings {
         self.flag(USE_DELTAS, are_used)
@@ -127,9 +127,9 @@ pub fn may_sign_crls(certificate: CertificateRef<'_>) -> Result<bool, Error> {
     Ok(ffi::MAY_SIGN_CRLS.of(certificate.as_der())? == 1)
 }
 
-/// What CRLs say of a certificate (RFC 5280 6.3.3), asked in their order: of several for the same reasons the latest comes first. A CRL counts where the
-/// verifier accepts its signature for its signer's key, where the signer's name is its issuer, where it is in date, and where it is one for the certificate, as
-/// `x509_revocation_status` of `x509.h` says.
+/// What CRLs say of a certificate (RFC 5280 6.3.3), asked in their order; of several for one scope under one key the newest counts, wherever it stands. A CRL
+/// counts where the verifier accepts its signature for its signer's key, where the signer's name is its issuer, where it is in date, and where it is one for
+/// the certificate, as `x509_revocation_status` of `x509.h` says.
 ///
 /// ```
 /// use std::time::{Duration, UNIX_EPOCH};
@@ -196,7 +196,8 @@ fn ask(
 /// The signer of a CRL is found by its issuer's name, and by the identifier of its key where both say one: what is trusted, a certificate of the path, or one
 /// of the further certificates, of which the path is found here, and has to be valid, and each certificate in it that isn't in the given path unrevoked. A
 /// signer counts only where [`may_sign_crls`] says so, so also of a certificate that is trusted. The status of a further certificate may be told by a CRL of
-/// its own key, but not by one of a signer whose status it tells. Of CRLs for the same reasons the latest is asked first, and `crl` is the place in `crls`.
+/// its own key; but of signers that tell only each other's status none counts. Who counts doesn't depend on the order of `crls`. Of CRLs for the same reasons
+/// the latest is asked first, and `crl` is the place in `crls`.
 ///
 /// # Errors
 /// [`Error::Value`] where the moment is before 1970 or after 9999; [`Error::UnnamedAnchor`] where what is trusted is a trust anchor without a name;
@@ -227,17 +228,16 @@ pub fn path_revocation_statuses<'a>(
         name: trusted.name().ok_or(Error::UnnamedAnchor)?,
         crls,
         certificates: others,
-        places: places.into_iter().map(|(_, place)| place).collect(),
         settings,
         verifier,
-        signed: HashMap::new(),
+        given: Vec::new(),
         statuses: HashMap::new(),
-        asked: Vec::new(),
         chains: HashMap::new(),
     };
-    let ends = 1..=path.certificates().len();
-    ends.map(|end| judge.status(&path.certificates()[..end]))
-        .collect()
+    for (_, place) in places {
+        judge.give(place)?;
+    }
+    judge.path_statuses()
 }
 
 /// Certificates below what is trusted, topmost first; none stand for what is trusted.
@@ -247,57 +247,135 @@ type Chain<'a> = Vec<CertificateRef<'a>>;
 const MOST_CHAINS: usize = 64;
 const LONGEST_CHAIN: usize = 8;
 
-/// The statuses of certificates, each by its chain.
+/// A CRL by its place, with the signer whose key signed it, and the chains to the certificates of that signer's which have to be unrevoked.
+struct Given<'a> {
+    place: usize,
+    signer: Chain<'a>,
+    further: Vec<Chain<'a>>,
+}
+
+/// The statuses of certificates, each by its chain and by the CRLs that are used, which are named by their places in `given`.
 struct Judge<'j, 'a, V> {
     path: &'j [CertificateRef<'a>],
     trusted: Trusted<'a>,
     name: NameRef<'a>,
     crls: &'j [CrlRef<'a>],
     certificates: Vec<CertificateRef<'a>>,
-    /// The places of the CRLs, the latest first.
-    places: Vec<usize>,
     settings: &'j RevocationSettings,
     verifier: &'j V,
-    signed: HashMap<(usize, Chain<'a>), bool>,
-    statuses: HashMap<Chain<'a>, RevocationStatus>,
-    asked: Vec<Chain<'a>>,
+    /// The CRLs, the latest first.
+    given: Vec<Given<'a>>,
+    statuses: HashMap<(Chain<'a>, Vec<usize>), RevocationStatus>,
     chains: HashMap<CertificateRef<'a>, Option<Chain<'a>>>,
 }
 
 impl<'a, V: Verifier> Judge<'_, 'a, V> {
-    fn status(&mut self, chain: &[CertificateRef<'a>]) -> Result<RevocationStatus, Error> {
-        if let Some(found) = self.statuses.get(chain) {
+    /// Those of the path's certificates, topmost first.
+    fn path_statuses(&mut self) -> Result<Vec<RevocationStatus>, Error> {
+        let mut refused = HashSet::new();
+        loop {
+            let signers = self.unrevoked_signers(&refused)?;
+            // what was told by some of their CRLs may be otherwise by all of them: who is revoked then tells nothing of another
+            let before = refused.len();
+            for chain in &signers {
+                if !self.status(chain, &signers)?.is_unrevoked() {
+                    refused.insert(chain.clone());
+                }
+            }
+            if refused.len() == before {
+                let path = self.path;
+                let ends = 1..=path.len();
+                return ends
+                    .map(|end| self.status(&path[..end], &signers))
+                    .collect();
+            }
+        }
+    }
+
+    /// The further signers that are unrevoked, by CRLs of those that were found so before them and by their own: so no answer rests on itself round others, and
+    /// the order of CRLs has no say.
+    fn unrevoked_signers(
+        &mut self,
+        refused: &HashSet<Chain<'a>>,
+    ) -> Result<HashSet<Chain<'a>>, Error> {
+        let further = self.given.iter().flat_map(|it| it.further.clone());
+        let mut asked: HashSet<Chain<'a>> =
+            further.filter(|chain| !refused.contains(chain)).collect();
+        let mut found = HashSet::new();
+        loop {
+            let mut more = Vec::new();
+            for chain in &asked {
+                if self.status(chain, &found)?.is_unrevoked() {
+                    more.push(chain.clone());
+                }
+            }
+            if more.is_empty() {
+                return Ok(found);
+            }
+            for chain in more {
+                asked.remove(&chain);
+                found.insert(chain);
+            }
+        }
+    }
+
+    /// What is said of the last certificate of the chain by the CRLs of these signers, and by its own.
+    fn status(
+        &mut self,
+        chain: &[CertificateRef<'a>],
+        signers: &HashSet<Chain<'a>>,
+    ) -> Result<RevocationStatus, Error> {
+        let counts = |it: &Chain<'a>| it == chain || signers.contains(it);
+        let places = 0..self.given.len();
+        let used: Vec<usize> = places
+            .filter(|at| self.given[*at].further.iter().all(counts))
+            .collect();
+        let key = (chain.to_vec(), used);
+        if let Some(found) = self.statuses.get(&key) {
             return Ok(*found);
         }
         let certificate = *chain.last().ok_or(Error::Unexpected)?;
-        self.asked.push(chain.to_vec());
-        let found = self.status_by(certificate);
-        self.asked.pop();
-        let found = found?;
-        self.statuses.insert(chain.to_vec(), found);
+        let found = self.status_by(certificate, &key.1)?;
+        self.statuses.insert(key, found);
         Ok(found)
     }
 
-    fn status_by(&mut self, certificate: CertificateRef<'a>) -> Result<RevocationStatus, Error> {
-        let (mut given, mut places) = (Vec::new(), Vec::new());
-        for place in self.places.clone() {
-            for signer in self.signers(&self.crls[place])? {
-                if self.is_signed(place, &signer)? && self.is_trusted(&signer)? {
-                    let crl = SignedCrl::new(self.crls[place], self.holder(&signer));
-                    given.push((crl.signed()?, true));
-                    places.push(place);
-                }
-            }
+    fn status_by(
+        &self,
+        certificate: CertificateRef<'a>,
+        used: &[usize],
+    ) -> Result<RevocationStatus, Error> {
+        let mut given = Vec::with_capacity(used.len());
+        for it in used.iter().map(|at| &self.given[*at]) {
+            let crl = SignedCrl::new(self.crls[it.place], self.holder(&it.signer));
+            given.push((crl.signed()?, true));
         }
-        let found = ask(certificate, &given, self.settings)?;
-        match found {
-            RevocationStatus::Revoked { crl, date, reason } => Ok(RevocationStatus::Revoked {
-                crl: *places.get(crl).ok_or(Error::Unexpected)?,
-                date,
-                reason,
-            }),
+        match ask(certificate, &given, self.settings)? {
+            RevocationStatus::Revoked { crl, date, reason } => {
+                let at = *used.get(crl).ok_or(Error::Unexpected)?;
+                let crl = self.given[at].place;
+                Ok(RevocationStatus::Revoked { crl, date, reason })
+            }
             other => Ok(other),
         }
+    }
+
+    /// The CRL is given, once for each signer whose key signed it.
+    fn give(&mut self, place: usize) -> Result<(), Error> {
+        for signer in self.signers(&self.crls[place])? {
+            let crl = SignedCrl::new(self.crls[place], self.holder(&signer));
+            if crl.is_signed(self.verifier)? {
+                let ends = 1..=signer.len();
+                let chains = ends.map(|end| signer[..end].to_vec());
+                let further = chains.filter(|it| !self.path.starts_with(it)).collect();
+                self.given.push(Given {
+                    place,
+                    signer,
+                    further,
+                });
+            }
+        }
+        Ok(())
     }
 
     /// Whose key it is: that of the last certificate; where there is none, that which is trusted.
@@ -324,31 +402,6 @@ impl<'a, V: Verifier> Judge<'_, 'a, V> {
             }
         }
         Ok(found)
-    }
-
-    fn is_signed(&mut self, place: usize, chain: &Chain<'a>) -> Result<bool, Error> {
-        let key = (place, chain.clone());
-        if let Some(found) = self.signed.get(&key) {
-            return Ok(*found);
-        }
-        let crl = SignedCrl::new(self.crls[place], self.holder(chain));
-        let found = crl.is_signed(self.verifier)?;
-        self.signed.insert(key, found);
-        Ok(found)
-    }
-
-    /// Whether each certificate of the chain is unrevoked that isn't in the path. Of itself a CRL may tell that; else what is being asked for is no answer.
-    fn is_trusted(&mut self, chain: &Chain<'a>) -> Result<bool, Error> {
-        for end in 1..=chain.len() {
-            let part = &chain[..end];
-            if self.path.starts_with(part) || matches!(self.asked.last(), Some(it) if it == part) {
-                continue;
-            }
-            if self.asked.iter().any(|it| it == part) || !self.status(part)?.is_unrevoked() {
-                return Ok(false);
-            }
-        }
-        Ok(true)
     }
 
     /// A valid path from what is trusted to the certificate, if there is one.

@@ -18,6 +18,7 @@ const ED25519: &[u8] = b"\x30\x05\x06\x03\x2b\x65\x70";
 const ROOT_KEY: &[u8] = b"\x30\x0b\x30\x05\x06\x03\x2b\x65\x70\x03\x02\x00r";
 const KEY: &[u8] = b"\x30\x0b\x30\x05\x06\x03\x2b\x65\x70\x03\x02\x00a";
 const LIST_KEY: &[u8] = b"\x30\x0b\x30\x05\x06\x03\x2b\x65\x70\x03\x02\x00l";
+const TOP_KEY: &[u8] = b"\x30\x0b\x30\x05\x06\x03\x2b\x65\x70\x03\x02\x00t";
 const LEAF_KEY: &[u8] = b"\x30\x0b\x30\x05\x06\x03\x2b\x65\x70\x03\x02\x00s";
 const MOMENT: u64 = 1_893_456_000;
 
@@ -409,6 +410,31 @@ fn a_further_certificate_signs() {
         letters(path, &[&root_list, &revokes_it], &[&by_issuer]),
         "u?"
     );
+}
+
+/// A signer whose status its own CRL tells, and one below it that is told by the first alone: each is asked for the CRL of the other.
+#[test]
+fn signers_in_a_circle() {
+    let (issuer, leaf) = (authority(KeyUsage::KEY_CERT_SIGN), leaf());
+    let path = [&issuer, &leaf];
+    let signs = Some(KeyUsage::CRL_SIGN);
+    let top = certificate(8, ("CN=Root", ROOT_KEY), ("CN=Root", TOP_KEY), false, signs);
+    let below = list_signer(9, "CN=Root", ROOT_KEY);
+    let of_top = |serials: &[u64]| list(&top, TOP_KEY, MOMENT, serials, None);
+    let of_below = |serials: &[u64]| list(&issuer, LIST_KEY, MOMENT, serials, None);
+    for (by_top, by_below, states) in [
+        (of_top(&[]), of_below(&[]), "uu"),
+        (of_top(&[2]), of_below(&[]), "ru"),
+        (of_top(&[9]), of_below(&[]), "u?"),
+        (of_top(&[8]), of_below(&[]), "??"),
+        (of_top(&[]), of_below(&[3]), "ur"),
+    ] {
+        for crls in [[&by_top, &by_below], [&by_below, &by_top]] {
+            for others in [[&top, &below], [&below, &top]] {
+                assert_eq!(letters(path, &crls, &others), states);
+            }
+        }
+    }
 }
 
 #[test]

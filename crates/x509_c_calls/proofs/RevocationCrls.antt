@@ -8,8 +8,7 @@ use Rattle.x509_c_calls.specs.OpenedCrls.{IsOpened}
 use Rattle.x509_c_calls.specs.RevocationStatus.{AllPairs, TellsSigner}
 use Rattle.x509_c_calls.specs.declared.revocation.Opened.{Opened}
 use Rattle.x509_path.specs.Certificates.{Certificate, extensions_of}
-use Rattle.x509_path.specs.Lent.{LendsAnchor}
-use Rattle.x509_revocation.specs.Lent.{LendsAll, LendsCrl, LendsGiven}
+use Rattle.x509_revocation.specs.Lent.{LendsAll, LendsCrl, LendsGiven, LendsSigner}
 use Rattle.x509_revocation.specs.Says.{GivenCrl}
 use Rattle.x509_revocation.specs.Signers.{MaySignCrls}
 use Rattle.x509_revocation.specs.declared.signed_crl.SignedCrl.{SignedCrl}
@@ -35,7 +34,7 @@ lends-one : (lent : SignedCrl) (opened : Opened) (given : GivenCrl) → IsLentFr
 lends-one lent opened given same is = record {
   bytes = ap (λ crl. crl.bytes.now) same.0 ∙ is.bytes;
   crl = subst (λ crl. LendsCrl crl.bytes.now given.crl) (sym same.0) is.crl;
-  signer = subst (λ signer. LendsAnchor signer given.signer) (sym same.1) is.signer;
+  signer = subst (λ signer. LendsSigner signer given.signer) (sym same.1) is.signer;
 }
 
 pub lends-all : (lent : List SignedCrl) (opened : List Opened) (given : List GivenCrl) → AllPairs IsLentFrom lent opened → AllPairs IsOpened opened given → LendsAll lent given

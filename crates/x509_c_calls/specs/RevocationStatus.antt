@@ -19,6 +19,7 @@ use Rattle.x509_der.specs.declared.error.ErrorKind.TheVariants as kinds
 use Rattle.x509_ext.specs.CrlReason.{crl_reason_number}
 use Rattle.x509_name.specs.Names.{name}
 use Rattle.x509_path.specs.Certificates.{Certificate, accept_all, extensions_of}
+use Rattle.x509_path.specs.declared.anchor.Anchor.{Anchor}
 use Rattle.x509_revocation.specs.Lent.{question}
 use Rattle.x509_revocation.specs.Says.{GivenCrl}
 use Rattle.x509_revocation.specs.Signers.{MaySignCrls}
@@ -71,8 +72,10 @@ pub record AreParts (bytes : List ℕ) (spans : SignedCrlSpans) (given : GivenCr
   pub within : IsWithin bytes spans.crl × IsWithin bytes spans.name × IsWithin bytes spans.key
   pub bytes_are : given.bytes ≡ part_of bytes spans.crl
   pub crl : Spells rfc5280_certificate_list given.crl (part_of bytes spans.crl)
-  pub name : Spells name given.signer.name (part_of bytes spans.name)
-  pub key : Spells subject_public_key_info given.signer.key (part_of bytes spans.key)
+  pub signer : Anchor
+  pub is_signer : given.signer ≡ Some signer
+  pub name : Spells name signer.name (part_of bytes spans.name)
+  pub key : Spells subject_public_key_info signer.key (part_of bytes spans.key)
 
 -- the CRLs that the caller has verified, with their places, from that place on: those that are marked by 1 and by no other number
 abbrev pub verified_from : ℕ → List SignedCrlSpans → List (ℕ × SignedCrlSpans)

@@ -3,6 +3,7 @@ use Rattle.std.proofs.Common.{◌≡◌, ℕ, suc, ◌-◌, ◌^◌, inl, inr, L
 use Rattle.std.specs.Int.Bits.{and_zero_l}
 use Rattle.x509_ext.specs.declared.pkix.reasons.Reasons.{Reasons}
 use Rattle.x509_revocation.specs.Lent.{LendsAll, LendsGiven, Steps}
+use Rattle.x509_revocation.specs.Points.{all_reasons}
 use Rattle.x509_revocation.specs.Says.{GivenCrl, Question}
 use Rattle.x509_revocation.specs.Status.{Answers, AnswersFrom, last_status, minus}
 use Rattle.x509_revocation.specs.declared.says.Step.TheVariants.{Left, Revoked}
@@ -58,3 +59,11 @@ module _ (question : Question) (given : List GivenCrl) where
     -- where no reason is left, none of the others is used
     pub ended : (lent : List SignedCrl) → left.0 ≡ 0 → Goes lent place left → Answers question given status.Unrevoked
     ended lent none (others, lends, then) = then status.Unrevoked (all_ended question given place left none others)
+
+none_given : (question : Question) (given : List GivenCrl) (found : RevocationStatus) → LendsAll [] given → found ≡ last_status all_reasons → Answers question given found
+none_given question [] found lends is = is
+none_given question (g ∷ given) found lends is = absurd lends
+
+-- where no CRL is lent, none is given
+pub none_asked : (question : Question) (lent : List SignedCrl) (given : List GivenCrl) (found : RevocationStatus) → lent ≡ [] → LendsAll lent given → found ≡ last_status all_reasons → Answers question given found
+none_asked question lent given found none lends is = none_given question given found (subst (λ l. LendsAll l given) none lends) is

@@ -10,6 +10,10 @@ pub mod Matches
 pub mod OneCover
 pub mod Named
 pub mod Orders
+pub mod Older
+pub mod Signed
+pub mod Lists
+pub mod Newest
 pub mod Same
 pub mod Settled
 pub mod OneStatus

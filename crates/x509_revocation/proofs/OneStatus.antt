@@ -39,12 +39,13 @@ one_among c crl (first ∷ others) x y (inr h) (inr k) = one_among c crl others 
 
 -- ---- a delta CRL, and what is found
 
-one_delta : (question : Question) (indirect : Bool) (complete : GivenCrl) (place : ℕ) (given : List GivenCrl) (x y : Option (ℕ × GivenCrl)) → FindsDelta question indirect complete place given x → FindsDelta question indirect complete place given y → x ≡ y
-one_delta question indirect complete place [] x y h k = h ∙ sym k
-one_delta question indirect complete place (first ∷ others) x y (inl h) (inl k) = h.1 ∙ sym k.1
-one_delta question indirect complete place (first ∷ others) x y (inl h) (inr k) = absurd (k.0 h.0)
-one_delta question indirect complete place (first ∷ others) x y (inr h) (inl k) = absurd (h.0 k.0)
-one_delta question indirect complete place (first ∷ others) x y (inr h) (inr k) = one_delta question indirect complete (suc place) others x y h.1 k.1
+one_delta : (question : Question) (indirect : Bool) (complete : GivenCrl) (all : List GivenCrl) (place : ℕ) (given : List GivenCrl) (x y : Option (ℕ × GivenCrl)) → FindsDelta question indirect complete all place given x
+    → FindsDelta question indirect complete all place given y → x ≡ y
+one_delta question indirect complete all place [] x y h k = h ∙ sym k
+one_delta question indirect complete all place (first ∷ others) x y (inl h) (inl k) = h.1 ∙ sym k.1
+one_delta question indirect complete all place (first ∷ others) x y (inl h) (inr k) = absurd (k.0 h.0)
+one_delta question indirect complete all place (first ∷ others) x y (inr h) (inl k) = absurd (h.0 k.0)
+one_delta question indirect complete all place (first ∷ others) x y (inr h) (inr k) = one_delta question indirect complete all (suc place) others x y h.1 k.1
 
 one_entry : (c : Certificate) (crl : Crl) (x y : Option Entry) → FindsEntry c crl x → FindsEntry c crl y → x ≡ y
 one_entry c crl x y h k = one_among c crl (listed crl) x y h k
@@ -84,7 +85,7 @@ module _ (question : Question) (all : List GivenCrl) where
       let list : tells.list ≡ says.list = one_list g.crl tells.list says.list tells.covers.has_list says.covers.has_list in
       let here = subst (λ (l : Option IssuingDistributionPoint). FindsWith question (is_indirect l) all place g tells.found) list tells.finds in
       let there = says.finds in
-      let delta : here.0 ≡ there.0 = one_delta question (is_indirect says.list) g 0 (deltas_among question all) here.0 there.0 here.1 there.1 in
+      let delta : here.0 ≡ there.0 = one_delta question (is_indirect says.list) g (deltas_among question all) 0 (deltas_among question all) here.0 there.0 here.1 there.1 in
       let finds = subst (λ d. FindsIn question.certificate place g.crl d tells.found) delta here.2 in
       let found : tells.found ≡ says.found = one_found question.certificate place g.crl there.0 tells.found says.found finds there.2 in
       (one_cover question.certificate g.crl tells.list says.list q r tells.covers says.covers, one_told says.found f e (subst (λ o. Tells o f) found tells.tells) says.tells)

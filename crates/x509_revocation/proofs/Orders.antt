@@ -22,7 +22,7 @@ number_lawfully = rounded_lawful crl_number_round Integer unsigned_integer (λ v
 base_lawfully : IsForm Never base_crl_number
 base_lawfully = rounded_lawful base_crl_number_round Integer unsigned_integer (λ v. refl) (universal_lawful Integer unsigned_integer_contents unsigned_integer_contents_lawful)
 
-one_number : (crl : Crl) (n m : ℕ) → HasNumber crl n → HasNumber crl m → n ≡ m
+pub one_number : (crl : Crl) (n m : ℕ) → HasNumber crl n → HasNumber crl m → n ≡ m
 one_number crl n m (read, has, is) (other, so, at) =
     sym is ∙ ap (λ (v : CrlNumber). number v.0) (one_payload crl_number number_lawfully (id_ce 20) (crl_extensions crl) read other has so) ∙ at
 

@@ -1,35 +1,16 @@
--- The delta CRL to a complete one, sought among CRLs.
-use Rattle.std.proofs.Common.{◌≡◌, ℕ, suc, Bool, true, false, is_some, option_map, inl, inr, List, [], ◌∷◌, Option, Some, None, refl}
+-- What is found in a complete CRL and in the delta CRL to it.
+use Rattle.std.proofs.Common.{◌≡◌, ℕ, true, false, is_some, option_map, inr, List, [], Option, Some, None, refl}
 use Rattle.x509_check.specs.CrlRefs.{lent_entry}
 use Rattle.x509_check.specs.declared.lent.entry.RevokedCertRef.{RevokedCertRef}
 use Rattle.x509_ext.specs.declared.pkix.reasons.Reasons.{Reasons}
 use Rattle.x509_path.specs.Certificates.{Certificate}
 use Rattle.x509_revocation.specs.Crls.{Crl, Entry}
 use Rattle.x509_revocation.specs.Entries.{FindsEntry}
-use Rattle.x509_revocation.specs.Lent.{LendsAll, LendsGiven, Steps, step_of}
-use Rattle.x509_revocation.specs.Says.{FindsAt, FindsDelta, GivenCrl, IsDeltaTo, Question, Says, deltas_among}
+use Rattle.x509_revocation.specs.Lent.{Steps, step_of}
+use Rattle.x509_revocation.specs.Says.{FindsAt, GivenCrl, Question, Says, deltas_among}
 use Rattle.x509_revocation.specs.Status.{AddsTo, minus}
 use Rattle.x509_revocation.specs.declared.says.Step.{Step}
 use Rattle.x509_revocation.specs.declared.status.Revocation.{Revocation}
-use Rattle.x509_revocation.specs.declared.signed_crl.SignedCrl.{SignedCrl}
-
-module _ (question : Question) (indirect : Bool) (complete : GivenCrl) (all : List GivenCrl) where
-  -- what is found among these, from that place on, is what is found among all
-  abbrev pub Seeks : List SignedCrl → ℕ → Type 0
-  Seeks lent place = (others : List GivenCrl) × LendsAll lent others × ((found : Option (ℕ × GivenCrl)) → FindsDelta question indirect complete place others found → FindsDelta question indirect complete 0 all found)
-
-  module _ (place : ℕ) (first : SignedCrl) (lent : List SignedCrl) where
-    pub further : Seeks (first ∷ lent) place → ((g : GivenCrl) → LendsGiven first g → IsDeltaTo question indirect complete g → ⊥) → Seeks lent (suc place)
-    further ([], lends, then) h = absurd lends
-    further (g ∷ others, lends, then) h = (others, lends.1, λ found finds. then found (inr (h g lends.0, finds)))
-
-    pub here : {P : GivenCrl → Type 0} → Seeks (first ∷ lent) place → ((g : GivenCrl) → LendsGiven first g → IsDeltaTo question indirect complete g × P g) → (g : GivenCrl) × FindsDelta question indirect complete 0 all (Some (place, g)) × P g
-    here ([], lends, then) h = absurd lends
-    here (g ∷ others, lends, then) h = let s = h g lends.0 in (g, then (Some (place, g)) (inl (s.0, refl)), s.1)
-
-  pub ended : (place : ℕ) → Seeks [] place → FindsDelta question indirect complete 0 all None
-  ended place ([], lends, then) = then None refl
-  ended place (g ∷ others, lends, then) = absurd lends
 
 -- ---- the delta CRL, and the complete one
 

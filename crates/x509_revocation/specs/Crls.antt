@@ -16,6 +16,7 @@ use Rattle.x509_ext.specs.declared.extension.Extension.{Extension}
 use Rattle.x509_ext.specs.declared.pkix.crl_number.BaseCrlNumber.{BaseCrlNumber}
 use Rattle.x509_ext.specs.declared.pkix.crl_number.CrlNumber.{CrlNumber}
 use Rattle.x509_ext.specs.declared.pkix.issuing_distribution_point.IssuingDistributionPoint.{IssuingDistributionPoint}
+use Rattle.x509_match.specs.Matching.{NamesMatch}
 use Rattle.x509_path.specs.Certificates.{Accepting, HasPayload, IsReadable}
 use Rattle.x509_path.specs.declared.anchor.Anchor.{Anchor}
 use Rattle.x509_prim.specs.Integer.{number}
@@ -70,6 +71,21 @@ HasOneAlgorithm crl = crl.tbs_cert_list.signature ≡ crl.signature_algorithm
 abbrev pub IsSignedBy : Accepting → Anchor → List ℕ → Crl → Type 0
 IsSignedBy accepts signer bytes crl = (signed : List ℕ) × IsSignedPart bytes signed × (accepts crl.signature_algorithm signer.key signed crl.signature ≡ true)
 
+-- the same of a signer whose name and key may be none: that one signs nothing
+abbrev pub IsSigned : Accepting → Option Anchor → List ℕ → Crl → Type 0
+IsSigned accepts None bytes crl = ⊥
+IsSigned accepts (Some signer) bytes crl = IsSignedBy accepts signer bytes crl
+
+-- the signer's name is that of the CRL's issuer
+abbrev pub IsOfSigner : Option Anchor → Crl → Type 0
+IsOfSigner None crl = ⊥
+IsOfSigner (Some signer) crl = NamesMatch signer.name crl.tbs_cert_list.issuer
+
+-- both signers have one key
+abbrev pub HaveOneKey : Option Anchor → Option Anchor → Type 0
+HaveOneKey (Some a) (Some b) = a.key ≡ b.key
+HaveOneKey _ _ = ⊥
+
 -- ---- what a complete CRL and a delta CRL are compared by (5.2.3, 5.2.4)
 
 -- one extension has the identifier, and these octets
@@ -79,6 +95,12 @@ HasOctets oid extensions octets = (e : Extension) × (with_oid oid extensions �
 -- both have one extension with the identifier, with the same octets, or neither has one
 abbrev pub HaveSame : List ℕ → List Extension → List Extension → Type 0
 HaveSame oid a b = ((with_oid oid a ≡ []) × (with_oid oid b ≡ [])) ⊎ ((octets : List ℕ) × HasOctets oid a octets × HasOctets oid b octets)
+
+-- Both are those of one issuer for one scope (5): the names of the issuers match, and the octets of the IssuingDistributionPoint are the same, with its
+-- point, its reasons and its flags; or neither has one.
+pub record HaveOneScope (a b : Crl) : Type 0 where
+  pub issuer : NamesMatch a.tbs_cert_list.issuer b.tbs_cert_list.issuer
+  pub scope : HaveSame (id_ce 28) (crl_extensions a) (crl_extensions b)
 
 -- the CRL number
 abbrev pub HasNumber : Crl → ℕ → Type 0
@@ -92,3 +114,24 @@ HasBase crl n = (read : BaseCrlNumber) × HasPayload base_crl_number (id_ce 27) 
 abbrev pub AreInOrder : Crl → Crl → Type 0
 AreInOrder complete delta =
     (base : ℕ) × (own : ℕ) × (next : ℕ) × HasBase delta base × HasNumber complete own × HasNumber delta next × (base ≤ own) × (own < next)
+
+-- ---- which of two CRLs for one scope is the current one (5.2.3)
+
+-- its number, if it has one that can be read
+abbrev pub IsNumbered : Crl → Option ℕ → Type 0
+IsNumbered crl None = (n : ℕ) → HasNumber crl n → ⊥
+IsNumbered crl (Some n) = HasNumber crl n
+
+-- The first number is the lower one, and none is lower than any. Where they don't differ, it is as the dates have it.
+abbrev pub IsBelow : Option ℕ → Option ℕ → Type 0 → Type 0
+IsBelow None None dates = dates
+IsBelow None (Some m) dates = Unit {0}
+IsBelow (Some n) None dates = ⊥
+IsBelow (Some n) (Some m) dates = (n < m) ⊎ ((n ≡ m) × dates)
+
+abbrev pub this_second : Crl → ℕ
+this_second crl = unix_seconds (date_time_of crl.tbs_cert_list.this_update)
+
+-- the first is older: its number is the lower one, and where they don't differ its this update is the earlier one
+abbrev pub IsOlder : Crl → Crl → Type 0
+IsOlder a b = (n : Option ℕ) × (m : Option ℕ) × IsNumbered a n × IsNumbered b m × IsBelow n m (this_second a < this_second b)

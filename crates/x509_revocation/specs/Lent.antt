@@ -5,6 +5,8 @@ use Rattle.x509_der.specs.Form.{Spells}
 use Rattle.x509_ext.specs.declared.pkix.reasons.Reasons.{Reasons}
 use Rattle.x509_path.specs.Certificates.{Accepting, Certificate}
 use Rattle.x509_path.specs.Lent.{LendsAnchor}
+use Rattle.x509_path.specs.declared.anchor.Anchor.{Anchor}
+use Rattle.x509_path.specs.declared.anchor_ref.AnchorRef.{AnchorRef}
 use Rattle.x509_revocation.specs.Crls.{Crl}
 use Rattle.x509_revocation.specs.Says.{GivenCrl, Question, Says}
 use Rattle.x509_revocation.specs.Status.{AddsTo, IsUnused, minus}
@@ -18,10 +20,21 @@ use Rattle.x509_revocation.specs.declared.status.Revocation.{Revocation}
 abbrev pub LendsCrl : List ℕ → Crl → Type 0
 LendsCrl bytes crl = Spells rfc5280_certificate_list crl bytes
 
+-- the name and the key; None where these are the encodings of none
+abbrev pub LendsSigner : AnchorRef → Option Anchor → Type 0
+LendsSigner lent None = (signer : Anchor) → LendsAnchor lent signer → ⊥
+LendsSigner lent (Some signer) = LendsAnchor lent signer
+
 pub record LendsGiven (lent : SignedCrl) (given : GivenCrl) : Type 0 where
   pub bytes : lent.crl.now.bytes.now ≡ given.bytes
   pub crl : LendsCrl lent.crl.now.bytes.now given.crl
-  pub signer : LendsAnchor lent.signer given.signer
+  pub signer : LendsSigner lent.signer given.signer
+
+-- the same of one whose signer's name and key are a name and a key
+pub record LendsNamed (lent : SignedCrl) (given : GivenCrl) : Type 0 where
+  pub lends : LendsGiven lent given
+  pub signer : Anchor
+  pub is : given.signer ≡ Some signer
 
 abbrev pub LendsAll : List SignedCrl → List GivenCrl → Type 0
 LendsAll [] [] = Unit {0}

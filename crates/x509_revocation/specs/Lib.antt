@@ -4,9 +4,12 @@ pub mod Points
 pub mod LentSides
 pub mod Crls
 pub mod Entries
+pub mod Ages
 pub mod Says
 pub mod Status
 pub mod Lent
 pub mod LentEntries
 pub mod LentFound
+pub mod LentDeltas
 pub mod Signers
+pub mod Equality

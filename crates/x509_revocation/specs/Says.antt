@@ -28,11 +28,11 @@ pub record Question : Type 0 where
   pub use_deltas : Bool
   pub accepts : Accepting
 
--- a CRL with its bytes, and the name and the key under which it is to be verified: (f) has been done for these
+-- a CRL with its bytes, and the name and the key under which it is to be verified, if they are a name and a key: (f) has been done for these
 pub record GivenCrl : Type 0 where
   pub crl : Crl
   pub bytes : List ℕ
-  pub signer : Anchor
+  pub signer : Option Anchor
 
 -- ---- (b) (2) (ii) to (iv): the certificate is in the scope that the IssuingDistributionPoint states
 
@@ -75,33 +75,47 @@ pub record IsComplete (without_next : Bool) (moment : CivilTime) (given : GivenC
   -- it is no delta CRL (5.2.4)
   pub no_indicator : with_oid (id_ce 27) (crl_extensions given.crl) ≡ []
   -- (f): the signer's name is that of its issuer
-  pub of_signer : NamesMatch given.signer.name given.crl.tbs_cert_list.issuer
+  pub of_signer : crls.IsOfSigner given.signer given.crl
+
+-- ---- (a): the current one of several complete CRLs
+
+-- A newer complete CRL for the same scope, which could be used, and is verified by the same key, takes the place of the CRL (5.2.3).
+pub record Replaces (question : Question) (indirect : Bool) (newer : GivenCrl) (older : GivenCrl) : Type 0 where
+  pub scope : crls.HaveOneScope older.crl newer.crl
+  pub one_key : crls.HaveOneKey older.signer newer.signer
+  pub is_older : crls.IsOlder older.crl newer.crl
+  pub complete : IsComplete question.without_next question.moment newer
+  pub signed : crls.IsSigned question.accepts newer.signer newer.bytes newer.crl
+  pub entries_usable : All (IsUsable indirect) (entries_of newer.crl)
 
 -- ---- (a), (c), (h): the delta CRL to a complete one
 
 pub record Fits (question : Question) (complete : GivenCrl) (delta : GivenCrl) : Type 0 where
   pub ready : IsReady question.without_next question.moment delta.crl
-  -- (c) (1)
-  pub issuer : NamesMatch complete.crl.tbs_cert_list.issuer delta.crl.tbs_cert_list.issuer
-  -- (c) (2): the IssuingDistributionPoint (5.2.4)
-  pub scope : crls.HaveSame (id_ce 28) (crl_extensions complete.crl) (crl_extensions delta.crl)
+  -- (c) (1), (c) (2)
+  pub scope : crls.HaveOneScope complete.crl delta.crl
   -- (c) (3): the AuthorityKeyIdentifier
   pub authority_key : crls.HaveSame (id_ce 35) (crl_extensions complete.crl) (crl_extensions delta.crl)
   -- 5.2.4
   pub in_order : crls.AreInOrder complete.crl delta.crl
   -- (h): by the key of the complete one
-  pub signed : crls.IsSignedBy question.accepts complete.signer delta.bytes delta.crl
+  pub signed : crls.IsSigned question.accepts complete.signer delta.bytes delta.crl
 
 -- it fits, and its entries can be used (5.3)
 abbrev pub IsDeltaTo : Question → Bool → GivenCrl → GivenCrl → Type 0
 IsDeltaTo question indirect complete delta = Fits question complete delta × All (IsUsable indirect) (entries_of delta.crl)
 
--- the first delta CRL to it among the CRLs from that place on, with its place; None exactly where there is none
-abbrev pub FindsDelta : Question → Bool → GivenCrl → ℕ → List GivenCrl → Option (ℕ × GivenCrl) → Type 0
-FindsDelta question indirect complete place [] found = found ≡ None
-FindsDelta question indirect complete place (given ∷ others) found =
-    (IsDeltaTo question indirect complete given × (found ≡ Some (place, given)))
-    ⊎ ((IsDeltaTo question indirect complete given → ⊥) × FindsDelta question indirect complete (suc place) others found)
+-- a delta CRL to it than which none to it among these is newer (a), in whatever order they stand
+abbrev pub IsCurrentDelta : Question → Bool → GivenCrl → List GivenCrl → GivenCrl → Type 0
+IsCurrentDelta question indirect complete all delta =
+    IsDeltaTo question indirect complete delta × All (λ other. IsDeltaTo question indirect complete other → crls.IsOlder delta.crl other.crl → ⊥) all
+
+-- the first of them from that place on, with its place; None exactly where there is none
+abbrev pub FindsDelta : Question → Bool → GivenCrl → List GivenCrl → ℕ → List GivenCrl → Option (ℕ × GivenCrl) → Type 0
+FindsDelta question indirect complete all place [] found = found ≡ None
+FindsDelta question indirect complete all place (given ∷ others) found =
+    (IsCurrentDelta question indirect complete all given × (found ≡ Some (place, given)))
+    ⊎ ((IsCurrentDelta question indirect complete all given → ⊥) × FindsDelta question indirect complete all (suc place) others found)
 
 -- those among which it is: none where no delta CRLs are used (6.3.1 (b))
 abbrev pub deltas_among : Question → List GivenCrl → List GivenCrl
@@ -122,7 +136,8 @@ FindsIn certificate place crl (Some delta) found =
 -- the same in the delta CRL to it that is among these, if there is one
 abbrev pub FindsWith : Question → Bool → List GivenCrl → ℕ → GivenCrl → Option (ℕ × Entry) → Type 0
 FindsWith question indirect all place given found =
-    (delta : Option (ℕ × GivenCrl)) × FindsDelta question indirect given 0 (deltas_among question all) delta × FindsIn question.certificate place given.crl delta found
+    (delta : Option (ℕ × GivenCrl)) × FindsDelta question indirect given (deltas_among question all) 0 (deltas_among question all) delta
+    × FindsIn question.certificate place given.crl delta found
 
 -- ---- (i) to (k): what the entry tells
 
@@ -146,9 +161,11 @@ pub record Says (question : Question) (all : List GivenCrl) (place : ℕ) (given
   pub list : Option IssuingDistributionPoint
   pub covers : Covers question.certificate given.crl list reasons
   -- (g)
-  pub signed : crls.IsSignedBy question.accepts given.signer given.bytes given.crl
+  pub signed : crls.IsSigned question.accepts given.signer given.bytes given.crl
   -- 5.3
   pub entries_usable : All (IsUsable (is_indirect list)) (entries_of given.crl)
+  -- (a)
+  pub current : All (λ other. Replaces question (is_indirect list) other given → ⊥) all
   pub found : Option (ℕ × Entry)
   pub finds : FindsWith question (is_indirect list) all place given found
   pub tells : Tells found revoked

@@ -1,14 +1,16 @@
 //! Extensions of CRLs and of their entries.
 
 ghost use Rattle.std.specs.List.{All};
-ghost use Rattle.std.specs.Prelude.{◌≡◌, ◌↔◌, ◌⊎◌, [], true, IsTrue};
+ghost use Rattle.std.specs.Prelude.{◌≡◌, ◌↔◌, ◌⊎◌, [], true, IfOk, IsTrue, MatchOption};
 ghost use Rattle.x509_check.specs.ExtensionRefs.{extensions_left, lent_extension};
 ghost use Rattle.x509_ext.specs.LookUp.{with_oid};
-ghost use Rattle.x509_path.specs.Certificates.{IsReadable};
-ghost use Rattle.x509_revocation.specs.Crls.{HaveSame};
+ghost use Rattle.x509_path.specs.Certificates.{HasPayload, IsReadable};
+ghost use Rattle.x509_revocation.specs.Crls.{Crl, HaveSame, crl_extensions};
+ghost use Rattle.x509_revocation.specs.Lent.{LendsCrl};
 
-use x509_check::{Check, ExtensionRef, ExtensionRefs};
-use x509_der::{AssociatedOid, ObjectIdentifier};
+use std::alloc::{AllocError, Global};
+use x509_check::{Check, CrlRef, ExtensionRef, ExtensionRefs};
+use x509_der::{AssociatedOid, Decode, ErrorKind, ObjectIdentifier};
 
 /// Whether the extension has the OID of the type, and its octets are an encoding of the type.
 fn is_readable<T: AssociatedOid + Check>(extension: &ExtensionRef<'_>) -> bool
@@ -63,5 +65,23 @@ pub(crate) fn have_same(a: &ExtensionRefs<'_>, b: &ExtensionRefs<'_>, oid: Objec
             Ok(None) | Err(_) => false,
         },
         Err(_) => false,
+    }
+}
+
+/// The value of the CRL's extension of the type; `None` where it has none that can be decoded.
+pub(crate) fn value_of<T: AssociatedOid + Decode>(
+    alloc: Global,
+    crl: &CrlRef<'_>,
+) -> Result<Option<T>, AllocError>
+    ensures { IfOk result (λ found. (of : Crl) → LendsCrl crl.now.bytes.now of
+        → MatchOption found ((value : T) → HasPayload T.form T.OID (crl_extensions of) value → ⊥) (HasPayload T.form T.OID (crl_extensions of))) }
+{
+    match crl.get_extension::<T>(alloc) {
+        Ok(Some((_, value))) => Ok(Some(value)),
+        Ok(None) => Ok(None),
+        Err(e) => match e.kind() {
+            ErrorKind::Memory => Err(AllocError),
+            _ => Ok(None),
+        },
     }
 }

@@ -7,6 +7,7 @@
 //! [`SliceVerifier`](x509_path::SliceVerifier). Words of our own are explained in `docs/MAP.md`.
 #![tactic(auto)]
 
+mod ages;
 mod dates;
 mod deltas;
 mod entries;

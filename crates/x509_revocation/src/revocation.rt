@@ -1,6 +1,6 @@
 //! The status of a certificate.
 
-ghost use Rattle.std.specs.Prelude.{◌≡◌, List, IfOk, MatchResult};
+ghost use Rattle.std.specs.Prelude.{◌≡◌, [], List, IfOk, IsOk, MatchResult};
 ghost use Rattle.x509_der.specs.declared.error.ErrorKind.TheVariants as errors;
 ghost use Rattle.x509_path.specs.Certificates.{Certificate};
 ghost use Rattle.x509_path.specs.Lent.{Lends};
@@ -63,20 +63,24 @@ fn ask_all<V: SliceVerifier>(
 
 /// Whether the CRLs say that the certificate is revoked at the time (RFC 5280 6.3.3). They are asked in their order, up to
 /// the first that revokes it, or until no reason is left. One that covers no reason that those before it left isn't used
-/// (6.3.3 (e)), so of several for the same reasons the latest comes first. Each is verified over its own bytes, and its
-/// entries are gone over once; those of a delta CRL once for each complete CRL that it fits.
+/// (6.3.3 (e)). Of several for one scope the newest counts, wherever it stands (6.3.3 (a)). Each is verified over its own
+/// bytes, and its entries are gone over once; those of a delta CRL once for each complete CRL that it fits, and those of a
+/// complete one once for each older one for its scope.
 ///
 /// A CRL is used where all of this holds, and says nothing where it doesn't:
 ///
 /// - It is in date, and has one algorithm in its signed part and outside. It has no critical extension but an
 ///   [`IssuingDistributionPoint`](x509_ext::pkix::IssuingDistributionPoint) that can be decoded, and no delta CRL indicator.
-/// - The signer's name is its issuer; names match as [`names_match`] says. The verifier accepts its signature for the signer's
-///   key.
+/// - The signer's name and key are the encodings of a name and of a key, and the name is its issuer; names match as
+///   [`names_match`] says. The verifier accepts its signature for the signer's key.
 /// - It is that of a distribution point of the certificate, or its issuer is that of the certificate and it is under no name,
 ///   or under that of this issuer. It is that of a point where its issuer is in the point's cRLIssuer (and it is an indirect
 ///   CRL, or the issuer is that of the certificate), or where there is none is that of the certificate; and where it is under
 ///   a name, one of its names matches one of the point's. Directory names match as said, other names where they are equal.
 /// - It has no IssuingDistributionPoint, or one that can be decoded, in whose scope the certificate is.
+/// - None of the others takes its place: one that could be used, under the same key, of the same issuer and with the same
+///   IssuingDistributionPoint, or none, that is newer. Newer is the one with the higher CRL number; where both have the same, or
+///   none, the one with the later this update; and a CRL with a number than one without (5.2.3).
 /// - Each critical extension of its entries is a [`CrlReason`](x509_ext::pkix::CrlReason) or a
 ///   [`CertificateIssuer`](x509_ext::pkix::CertificateIssuer) that can be decoded. A CertificateIssuer stands in entries of an
 ///   indirect CRL alone, no entry has two, and each can be decoded and has a directory name.
@@ -86,8 +90,8 @@ fn ask_all<V: SliceVerifier>(
 /// certificate's issuer is that of an entry where it matches that name, or one of the directory names in force.
 ///
 /// Where the settings say so, a complete CRL is used with a delta CRL to it: the entry is looked for in that one, and only where
-/// it isn't there in the complete one. The reason removeFromCRL says that the certificate isn't revoked. The first of all given
-/// CRLs counts that is a delta CRL to the complete one, wherever it stands:
+/// it isn't there in the complete one. The reason removeFromCRL says that the certificate isn't revoked. The newest of all given
+/// CRLs counts that is a delta CRL to the complete one, wherever it stands, and of several as new the first:
 ///
 /// - It is in date, has one algorithm, and has no critical extension but an IssuingDistributionPoint and a
 ///   [`BaseCrlNumber`](x509_ext::pkix::BaseCrlNumber) that can be decoded.
@@ -97,15 +101,15 @@ fn ask_all<V: SliceVerifier>(
 /// - The verifier accepts its signature for the key of the complete CRL's signer (6.3.3 (h)); its own signer isn't asked.
 /// - Its entries can be used, as said of a complete one's.
 ///
-/// Memory is taken only for the distribution points of the certificate and the names of a CRL's, for a CRL number of more than 24
-/// octets where delta CRLs are used, and where names that differ have a BMPString, a UTF8String beyond ASCII, or an RDN of more
+/// Memory is taken only where there is a CRL: for the distribution points of the certificate and the names of a CRL's, for a CRL
+/// number of more than 24 octets, and where names that differ have a BMPString, a UTF8String beyond ASCII, or an RDN of more
 /// than 16 attributes.
 ///
 /// [`names_match`]: x509_match::names_match
 ///
 /// # Errors
 ///
-/// `Memory` when out of memory, and nothing else where each signer's name and key are the encodings of a name and of a key.
+/// `Memory` when out of memory, and nothing else; nothing where there is no CRL.
 pub fn revocation_status<V: SliceVerifier>(
     alloc: Global,
     certificate: &CertificateRef<'_>,
@@ -113,9 +117,13 @@ pub fn revocation_status<V: SliceVerifier>(
     settings: &RevocationSettings,
     verifier: &V,
 ) -> Result<RevocationStatus, Error>
-    ensures { (c : Certificate) (given : List GivenCrl) → Lends certificate.now.bytes.now c → LendsAll crls.now given
+    ensures answers { (c : Certificate) (given : List GivenCrl) → Lends certificate.now.bytes.now c → LendsAll crls.now given
         → MatchResult result (Answers (question (V.accepts verifier.now) settings.now c) given) (λ e. e.kind ≡ errors.Memory) }
+    ensures memory { crls.now ≡ [] → IsOk result }
 {
+    if crls.is_empty() {
+        return Ok(last_status(all_reasons()));
+    }
     let points = points_of(alloc, certificate)?;
     let asked = Asked {
         alloc,

@@ -1,21 +1,27 @@
 //! What one CRL says of a certificate.
 
 ghost use Rattle.std.specs.List.{All};
-ghost use Rattle.std.specs.Prelude.{◌≡◌, ◌↔◌, [], IfOk, IsTrue, Option};
+ghost use Rattle.std.specs.Prelude.{◌≡◌, ◌↔◌, [], true, IfOk, IsTrue, MatchOption, Option};
+ghost use Rattle.x509_base.specs.SubjectPublicKeyInfo.{subject_public_key_info};
+ghost use Rattle.x509_base.specs.declared.subject_public_key_info.SubjectPublicKeyInfo as keys;
+ghost use Rattle.x509_der.specs.Form.{Spells};
 ghost use Rattle.x509_ext.specs.Identifiers.{id_ce};
 ghost use Rattle.x509_ext.specs.LookUp.{with_oid};
 ghost use Rattle.x509_match.specs.Matching.{NamesMatch};
+ghost use Rattle.x509_name.specs.Names as grammar;
 ghost use Rattle.x509_path.specs.Lent.{LendsAnchor};
 ghost use Rattle.x509_path.specs.declared.anchor.Anchor.{Anchor};
-ghost use Rattle.x509_revocation.specs.Crls.{Crl, HasOneAlgorithm, IsProcessed, IsSignedBy, crl_extensions};
-ghost use Rattle.x509_revocation.specs.Lent.{LendsCrl};
+ghost use Rattle.x509_revocation.specs.Crls.{Crl, HasOneAlgorithm, IsOfSigner, IsOlder, IsProcessed, IsSignedBy, crl_extensions};
+ghost use Rattle.x509_revocation.specs.Lent.{LendsCrl, LendsGiven};
 ghost use Rattle.x509_revocation.specs.Lent as steps;
 ghost use Rattle.x509_revocation.specs.LentFound.{placed_entry};
-ghost use Rattle.x509_revocation.specs.Says.{IsReady, Tells};
+ghost use Rattle.x509_revocation.specs.Names as names;
+ghost use Rattle.x509_revocation.specs.Says.{GivenCrl, IsReady, Tells};
 ghost use Rattle.x509_revocation.specs.declared.status.Revocation as revocations;
 
+use crate::ages::is_older;
 use crate::dates::is_in_date;
-use crate::deltas::{are_in_order, have_same_scope};
+use crate::deltas::{are_in_order, have_same_key_identifier, have_same_point};
 use crate::entries::{Found, look_up, tell};
 use crate::extensions::{are_processed, has_none};
 use crate::names::encoded_match;
@@ -26,11 +32,13 @@ use crate::settings::RevocationSettings;
 use crate::signed_crl::SignedCrl;
 use crate::status::Revocation;
 use std::alloc::{AllocError, Global};
+use x509_base::SubjectPublicKeyInfo;
 use x509_cert::laws::one_signed_part;
-use x509_check::{CertificateRef, CrlRef, RevokedCertRef};
+use x509_check::{CertificateRef, Check, CrlRef, RevokedCertRef};
 use x509_der::AssociatedOid;
 use x509_ext::pkix::crl::dp::{DistributionPoint, ReasonFlags};
 use x509_ext::pkix::{BaseCrlNumber, IssuingDistributionPoint};
+use x509_name::name::Name;
 use x509_path::{AnchorRef, SliceVerifier};
 
 /// Whether it is no delta CRL.
@@ -62,14 +70,50 @@ fn is_ready(settings: &RevocationSettings, crl: &CrlRef<'_>) -> bool
     is_in_date(settings, crl) && is_processed(crl) && has_one_algorithm(crl)
 }
 
+/// Whether the bytes are the encoding of a name.
+fn is_name(bytes: &[u8]) -> bool
+    ensures { IsTrue result ↔ ((found : names.Name) × Spells grammar.name found bytes.now) }
+{
+    match Name::check(bytes) {
+        Ok(()) => true,
+        Err(_) => false,
+    }
+}
+
+/// Whether the bytes are the encoding of a public key.
+fn is_key(bytes: &[u8]) -> bool
+    ensures { IsTrue result ↔ ((found : keys.SubjectPublicKeyInfo) × Spells subject_public_key_info found bytes.now) }
+{
+    match SubjectPublicKeyInfo::check(bytes) {
+        Ok(()) => true,
+        Err(_) => false,
+    }
+}
+
+/// Whether the signer's name and key are the encodings of a name and of a key.
+fn is_anchor(signer: &AnchorRef<'_>) -> bool
+    ensures { IsTrue result ↔ ((anchor : Anchor) × LendsAnchor signer.now anchor) }
+{
+    is_name(signer.name) && is_key(signer.key)
+}
+
 /// Whether the signer's name is the CRL's issuer.
 fn is_of_signer(alloc: Global, given: &SignedCrl<'_, '_>) -> Result<bool, AllocError>
-    ensures { IfOk result (λ b. (list : Crl) (signer : Anchor) → LendsCrl given.now.crl.now.bytes.now list → LendsAnchor given.now.signer signer
-        → IsTrue b ↔ NamesMatch signer.name list.tbs_cert_list.issuer) }
+    ensures { IfOk result (λ b. (g : GivenCrl) → LendsGiven given.now g → IsTrue b ↔ IsOfSigner g.signer g.crl) }
 {
+    if !is_anchor(&given.signer) {
+        return Ok(false);
+    }
     let crl = given.crl;
     let same = encoded_match(alloc, given.signer.name, crl.issuer())?;
     Ok(same)
+}
+
+/// Whether both signers have one key.
+fn have_one_key(a: &AnchorRef<'_>, b: &AnchorRef<'_>) -> bool
+    ensures { (x y : Anchor) → LendsAnchor a.now x → LendsAnchor b.now y → IsTrue result ↔ (x.key ≡ y.key) }
+{
+    a.key == b.key
 }
 
 /// Whether both CRLs have one issuer.
@@ -115,6 +159,31 @@ fn step_of(alloc: Global, found: &Found<'_>, rest: ReasonFlags) -> Step
     }
 }
 
+/// The newest delta CRL of those that were looked at.
+#[derive(Clone, Copy)]
+pub(crate) struct Newest<'s, 'a> {
+    /// The delta CRL.
+    pub(crate) crl: &'s CrlRef<'a>,
+
+    /// Its place, from 0.
+    pub(crate) place: usize,
+}
+
+/// Whether the delta CRL is newer than the newest so far.
+fn is_newer(
+    alloc: Global,
+    newest: &Option<Newest<'_, '_>>,
+    delta: &CrlRef<'_>,
+) -> Result<bool, AllocError>
+    ensures { IfOk result (λ b. MatchOption newest.now (b ≡ true) (λ it. (d x : Crl)
+        → LendsCrl it.crl.now.bytes.now d → LendsCrl delta.now.bytes.now x → IsTrue b ↔ IsOlder d x)) }
+{
+    match newest {
+        Some(it) => is_older(alloc, it.crl, delta),
+        None => Ok(true),
+    }
+}
+
 /// What is asked of CRLs.
 #[derive(Clone, Copy)]
 pub(crate) struct Asked<'q, 'c, 's, 'a, V> {
@@ -137,29 +206,34 @@ pub(crate) struct Asked<'q, 'c, 's, 'a, V> {
     pub(crate) crls: &'q [SignedCrl<'s, 'a>],
 }
 
-impl<'a, V: SliceVerifier> Asked<'_, '_, '_, 'a, V> {
-    ghost use Rattle.std.specs.Prelude.{◌≡◌, ◌↔◌, ℕ, IfOk, IsTrue, List, MatchOption, None, Option, Some, option_map};
+impl<'s, 'a, V: SliceVerifier> Asked<'_, '_, 's, 'a, V> {
+    ghost use Rattle.std.specs.List.{All};
+    ghost use Rattle.std.specs.Prelude.{◌≡◌, ◌↔◌, ◌++◌, ◌∷◌, [], ℕ, length, IfOk, IsTrue, List, MatchOption, None, Option, Some, option_map};
     ghost use Rattle.x509_check.specs.CrlRefs.{lent_entry};
     ghost use Rattle.x509_ext.specs.declared.pkix.reasons.Reasons as reason_sets;
     ghost use Rattle.x509_path.specs.Certificates.{Certificate};
     ghost use Rattle.x509_path.specs.Lent.{Lends};
     ghost use Rattle.x509_revocation.specs.Crls.{Entry};
+    ghost use Rattle.x509_revocation.specs.LentDeltas.{IsNewer, IsNoNewer};
     ghost use Rattle.x509_revocation.specs.Entries.{FindsEntry};
-    ghost use Rattle.x509_revocation.specs.Lent.{LendsAll, LendsGiven, Steps, question, step_of};
+    ghost use Rattle.x509_revocation.specs.Lent.{LendsAll, LendsCrl, LendsGiven, LendsNamed, Steps, question, step_of};
     ghost use Rattle.x509_revocation.specs.LentFound.{placed_entry};
     ghost use Rattle.x509_revocation.specs.Points.{HasPoints};
-    ghost use Rattle.x509_revocation.specs.Says.{Covers, FindsAt, FindsDelta, FindsWith, Fits, GivenCrl, IsComplete, IsDeltaTo, Tells};
+    ghost use Rattle.x509_revocation.specs.Says.{Covers, FindsAt, FindsDelta, FindsWith, Fits, GivenCrl, IsComplete, IsDeltaTo, Replaces, Tells};
     ghost use Rattle.x509_revocation.specs.Status.{AddsTo, minus};
     ghost use Rattle.x509_revocation.specs.declared.status.Revocation as revocations;
 
     /// Whether the delta CRL is one to the complete CRL, its entries aside.
     fn fits(&self, complete: &SignedCrl<'_, '_>, delta: &CrlRef<'_>) -> Result<bool, AllocError>
         ensures { IfOk result (λ b. (c : Certificate) (g d : GivenCrl)
-            → LendsGiven complete.now g → LendsCrl delta.now.bytes.now d.crl → delta.now.bytes.now ≡ d.bytes
+            → LendsNamed complete.now g → LendsCrl delta.now.bytes.now d.crl → delta.now.bytes.now ≡ d.bytes
             → IsTrue b ↔ Fits (question (V.accepts self.now.verifier.now) self.now.settings.now c) g d) }
     {
         let whole = complete.crl;
-        if !is_ready(self.settings, delta) || !have_same_scope(whole, delta) {
+        if !is_ready(self.settings, delta) || !have_same_point(whole, delta) {
+            return Ok(false);
+        }
+        if !have_same_key_identifier(whole, delta) {
             return Ok(false);
         }
         let is_issuers = have_one_issuer(self.alloc, whole, delta)?;
@@ -180,7 +254,7 @@ impl<'a, V: SliceVerifier> Asked<'_, '_, '_, 'a, V> {
         is_indirect: bool,
         delta: &CrlRef<'a>,
     ) -> Result<Option<Option<RevokedCertRef<'a>>>, AllocError>
-        ensures { IfOk result (λ looked. (c : Certificate) (g d : GivenCrl) → Lends self.now.certificate.now.bytes.now c → LendsGiven complete.now g
+        ensures { IfOk result (λ looked. (c : Certificate) (g d : GivenCrl) → Lends self.now.certificate.now.bytes.now c → LendsNamed complete.now g
             → LendsCrl delta.now.bytes.now d.crl → delta.now.bytes.now ≡ d.bytes
             → MatchOption looked (IsDeltaTo (question (V.accepts self.now.verifier.now) self.now.settings.now c) is_indirect g d → ⊥)
             (λ entry. IsDeltaTo (question (V.accepts self.now.verifier.now) self.now.settings.now c) is_indirect g d
@@ -193,28 +267,62 @@ impl<'a, V: SliceVerifier> Asked<'_, '_, '_, 'a, V> {
         look_up(self.alloc, self.certificate, delta, is_indirect)
     }
 
-    /// What the first delta CRL to the complete one has of the certificate; `None` where there is no delta CRL to it.
+    /// The entry of the certificate in a delta CRL to the complete one that is newer than the newest so far, if it has one; `None` where it is no such one.
+    fn look_in_newer(
+        &self,
+        complete: &SignedCrl<'_, '_>,
+        is_indirect: bool,
+        newest: &Option<Newest<'_, '_>>,
+        delta: &CrlRef<'a>,
+    ) -> Result<Option<Option<RevokedCertRef<'a>>>, AllocError>
+        ensures { IfOk result (λ looked. (c : Certificate) (g d : GivenCrl) → Lends self.now.certificate.now.bytes.now c → LendsNamed complete.now g
+            → LendsCrl delta.now.bytes.now d.crl → delta.now.bytes.now ≡ d.bytes
+            → MatchOption looked (IsNoNewer (question (V.accepts self.now.verifier.now) self.now.settings.now c) is_indirect g newest.now d)
+            (λ entry. IsNewer newest.now d.crl × IsDeltaTo (question (V.accepts self.now.verifier.now) self.now.settings.now c) is_indirect g d
+            × FindsEntry c d.crl (option_map lent_entry entry))) }
+    {
+        let is_next = is_newer(self.alloc, newest, delta)?;
+        if !is_next {
+            return Ok(None);
+        }
+        self.look_in_delta(complete, is_indirect, delta)
+    }
+
+    /// What the newest delta CRL to the complete one has of the certificate; `None` where there is no delta CRL to it.
     fn look_in_deltas(
         &self,
         complete: &SignedCrl<'_, '_>,
         is_indirect: bool,
     ) -> Result<Option<Found<'a>>, AllocError>
         ensures { IfOk result (λ looked. (c : Certificate) (all : List GivenCrl) (g : GivenCrl) → Lends self.now.certificate.now.bytes.now c
-            → LendsAll self.now.crls.now all → LendsGiven complete.now g
-            → MatchOption looked (FindsDelta (question (V.accepts self.now.verifier.now) self.now.settings.now c) is_indirect g 0 all None)
+            → LendsAll self.now.crls.now all → LendsNamed complete.now g
+            → MatchOption looked (FindsDelta (question (V.accepts self.now.verifier.now) self.now.settings.now c) is_indirect g all 0 all None)
             (λ found. (d : GivenCrl)
-            × FindsDelta (question (V.accepts self.now.verifier.now) self.now.settings.now c) is_indirect g 0 all (Some (found.place, d))
+            × FindsDelta (question (V.accepts self.now.verifier.now) self.now.settings.now c) is_indirect g all 0 all (Some (found.place, d))
             × FindsEntry c d.crl (option_map lent_entry found.entry))) }
     {
         let crls = self.crls;
+        let mut newest: Option<Newest<'s, 'a>> = None;
+        let mut found: Option<RevokedCertRef<'a>> = None;
         for (place, given) in crls.iter().enumerate() {
-            match self.look_in_delta(complete, is_indirect, given.crl) {
-                Ok(Some(entry)) => return Ok(Some(Found { place, entry })),
-                Ok(None) => {}
+            let crl = given.crl;
+            let looked = match self.look_in_newer(complete, is_indirect, &newest, crl) {
+                Ok(looked) => looked,
                 Err(e) => return Err(e),
-            }
+            };
+            let Some(entry) = looked else {
+                continue;
+            };
+            newest = Some(Newest { crl, place });
+            found = entry;
         }
-        Ok(None)
+        match newest {
+            Some(it) => Ok(Some(Found {
+                place: it.place,
+                entry: found,
+            })),
+            None => Ok(None),
+        }
     }
 
     /// What the delta CRL to the complete one has of the certificate; `None` where it has no entry of it, or there is none or
@@ -225,7 +333,7 @@ impl<'a, V: SliceVerifier> Asked<'_, '_, '_, 'a, V> {
         is_indirect: bool,
     ) -> Result<Option<Found<'a>>, AllocError>
         ensures { IfOk result (λ looked. (c : Certificate) (all : List GivenCrl) (g : GivenCrl) (place : ℕ) → Lends self.now.certificate.now.bytes.now c
-            → LendsAll self.now.crls.now all → LendsGiven complete.now g
+            → LendsAll self.now.crls.now all → LendsNamed complete.now g
             → MatchOption looked ((own : Option (ℕ × Entry)) → FindsAt c place g.crl own
             → FindsWith (question (V.accepts self.now.verifier.now) self.now.settings.now c) is_indirect all place g own)
             (λ found. FindsWith (question (V.accepts self.now.verifier.now) self.now.settings.now c) is_indirect all place g (placed_entry found))) }
@@ -257,7 +365,7 @@ impl<'a, V: SliceVerifier> Asked<'_, '_, '_, 'a, V> {
         rest: ReasonFlags,
     ) -> Result<Step, AllocError>
         ensures { IfOk result (λ step. (c : Certificate) (all : List GivenCrl) (g : GivenCrl) → Lends self.now.certificate.now.bytes.now c
-            → LendsAll self.now.crls.now all → LendsGiven complete.now g → FindsAt c own.now.place g.crl (placed_entry own.now)
+            → LendsAll self.now.crls.now all → LendsNamed complete.now g → FindsAt c own.now.place g.crl (placed_entry own.now)
             → (found : Option (ℕ × Entry))
             × FindsWith (question (V.accepts self.now.verifier.now) self.now.settings.now c) is_indirect all own.now.place g found
             × ((revoked : Option revocations.Revocation) × Tells found revoked × (step ≡ step_of rest revoked))) }
@@ -267,6 +375,62 @@ impl<'a, V: SliceVerifier> Asked<'_, '_, '_, 'a, V> {
             Ok(None) => Ok(step_of(self.alloc, own, rest)),
             Err(e) => Err(e),
         }
+    }
+
+    /// Whether the CRL is a newer one that takes the place of the older one.
+    fn replaces(
+        &self,
+        older: &SignedCrl<'_, '_>,
+        is_indirect: bool,
+        newer: &SignedCrl<'_, '_>,
+    ) -> Result<bool, AllocError>
+        ensures { IfOk result (λ b. (c : Certificate) (g n : GivenCrl) → Lends self.now.certificate.now.bytes.now c
+            → LendsNamed older.now g → LendsGiven newer.now n
+            → IsTrue b ↔ Replaces (question (V.accepts self.now.verifier.now) self.now.settings.now c) is_indirect n g) }
+    {
+        let (old, new) = (older.crl, newer.crl);
+        if !have_one_key(&older.signer, &newer.signer) {
+            return Ok(false);
+        }
+        if !have_same_point(old, new) {
+            return Ok(false);
+        }
+        let is_older = is_older(self.alloc, old, new)?;
+        if !is_older {
+            return Ok(false);
+        }
+        let is_issuers = have_one_issuer(self.alloc, old, new)?;
+        if !is_issuers {
+            return Ok(false);
+        }
+        let is_usable = self.is_usable(newer)?;
+        if !is_usable {
+            return Ok(false);
+        }
+        if !is_signed(self.verifier, &newer.signer, new) {
+            return Ok(false);
+        }
+        match look_up(self.alloc, self.certificate, new, is_indirect) {
+            Ok(Some(_)) => Ok(true),
+            Ok(None) => Ok(false),
+            Err(e) => Err(e),
+        }
+    }
+
+    /// Whether no CRL takes the place of this one.
+    fn is_current(&self, given: &SignedCrl<'_, '_>, is_indirect: bool) -> Result<bool, AllocError>
+        ensures { IfOk result (λ b. (c : Certificate) (all : List GivenCrl) (g : GivenCrl) → Lends self.now.certificate.now.bytes.now c
+            → LendsAll self.now.crls.now all → LendsNamed given.now g
+            → IsTrue b ↔ All (λ n. Replaces (question (V.accepts self.now.verifier.now) self.now.settings.now c) is_indirect n g → ⊥) all) }
+    {
+        let crls = self.crls;
+        for other in crls {
+            let replaces = self.replaces(given, is_indirect, other)?;
+            if replaces {
+                return Ok(false);
+            }
+        }
+        Ok(true)
     }
 
     /// What the CRL at the place says of the certificate, where it is usable and covers these reasons; those behind it are left
@@ -281,7 +445,7 @@ impl<'a, V: SliceVerifier> Asked<'_, '_, '_, 'a, V> {
     ) -> Result<Step, AllocError>
         ensures { IfOk result (λ step. (c : Certificate) (all : List GivenCrl) (g : GivenCrl) (reasons : reason_sets.Reasons)
             → Lends self.now.certificate.now.bytes.now c
-            → LendsAll self.now.crls.now all → LendsGiven given.now g
+            → LendsAll self.now.crls.now all → LendsNamed given.now g
             → IsComplete self.now.settings.now.without_next_update self.now.settings.now.moment g → Covers c g.crl list.now reasons
             → AddsTo left reasons → rest ≡ minus left reasons
             → Steps (question (V.accepts self.now.verifier.now) self.now.settings.now c) all place left g step) }
@@ -290,6 +454,10 @@ impl<'a, V: SliceVerifier> Asked<'_, '_, '_, 'a, V> {
             return Ok(Step::Left(left));
         }
         let indirect = is_indirect(list);
+        let is_current = self.is_current(given, indirect)?;
+        if !is_current {
+            return Ok(Step::Left(left));
+        }
         match look_up(self.alloc, self.certificate, given.crl, indirect) {
             Ok(Some(entry)) => {
                 let own = Found { place, entry };

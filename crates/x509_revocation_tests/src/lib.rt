@@ -2,6 +2,8 @@
 #![tactic(auto)]
 
 #[cfg(test)]
+mod current;
+#[cfg(test)]
 mod kinds;
 #[cfg(test)]
 mod statuses;

@@ -17,6 +17,7 @@ from .algorithms import (
     PssParameters,
     algorithm_of,
     hash_of,
+    is_pss_of_key,
     pss_algorithm,
     pss_parameters,
     pure_algorithm,
@@ -165,7 +166,7 @@ def _known(algorithm: AlgorithmIdentifier) -> tuple[str, str | None]:
 
 
 def _known_pss(algorithm: AlgorithmIdentifier) -> PssParameters:
-    found = pss_parameters(algorithm)
+    found = pss_parameters(algorithm.parameters)
     if found is None:
         raise unsupported("a hash, the mask or the trailer of RSASSA-PSS isn't known")
     return found
@@ -179,8 +180,8 @@ _BROKEN = ("md5", "sha1")
 
 def verify(info: bytes, algorithm: AlgorithmIdentifier, message: bytes, signature: bytes, unused_bits: int = 0) -> None:
     """Verifies a signature of a message with the key of a SubjectPublicKeyInfo. InvalidSignature of `cryptography` where it is none; a ValueError where the
-    algorithm isn't one for such keys, or its hash is MD5 or SHA-1, as there; a TypeError where no algorithm is one for such keys, and UnsupportedAlgorithm
-    where the algorithm isn't known."""
+    algorithm isn't one for such keys, or not with the parameters that the key has (RFC 4055 3.3), or its hash is MD5 or SHA-1, as there; a TypeError where no
+    algorithm is one for such keys, and UnsupportedAlgorithm where the algorithm isn't known."""
     if not verifies(info):
         raise TypeError("a key of that kind verifies no signatures")
     way = _known(algorithm)[0]
@@ -206,6 +207,8 @@ def verifies(info: bytes) -> bool:
 def _goes_with(way: str, key: PublicKey, algorithm: AlgorithmIdentifier) -> bool:
     if way == PURE:
         return key.algorithm_oid == algorithm.oid
+    if way == PSS and key.kind is KeyKind.rsa_pss:
+        return is_pss_of_key(algorithm.parameters, key.parameters)
     return _WAY_OF_KINDS.get(key.kind) in ((RSA, PSS) if way == PSS else (way,))
 
 

@@ -105,12 +105,12 @@ def pss_algorithm(of: PssParameters) -> AlgorithmIdentifier:
     return _written(OID.RSASSA_PSS, element(SEQUENCE, *parts))
 
 
-def pss_parameters(algorithm: AlgorithmIdentifier) -> PssParameters | None:
-    """The parameters of RSASSA-PSS; None where a hash or the mask isn't known, or the trailer is another than 1. An X509Error where they aren't of that
-    form."""
+def pss_parameters(given: bytes | None) -> PssParameters | None:
+    """The parameters of RSASSA-PSS, of an algorithm or of a key, or the defaults; None where a hash or the mask isn't known, or the trailer is another than 1.
+    An X509Error where they aren't of that form."""
     parts = {}
-    if algorithm.parameters is not None:
-        found = elements(only(algorithm.parameters, SEQUENCE, "the parameters of RSASSA-PSS").content)
+    if given is not None:
+        found = elements(only(given, SEQUENCE, "the parameters of RSASSA-PSS").content)
         parts = {it.tag: it.content for it in found}
         if list(parts) != sorted(parts) or len(parts) < len(found) or not set(parts) <= {0xA0, 0xA1, 0xA2, 0xA3}:
             raise X509Error("the parameters of RSASSA-PSS", MALFORMED)
@@ -119,6 +119,17 @@ def pss_parameters(algorithm: AlgorithmIdentifier) -> PssParameters | None:
     salt = whole_number(parts[0xA2]) if 0xA2 in parts else 20
     trailer = whole_number(parts[0xA3]) if 0xA3 in parts else 1
     return None if hashed is None or mask is None or trailer != 1 else PssParameters(hashed, mask, salt)
+
+
+def is_pss_of_key(given: bytes | None, of_key: bytes | None) -> bool:
+    """Whether a signature by RSASSA-PSS with these parameters is one for a key of RSASSA-PSS with those (RFC 4055 1.2, 3.3): the hash, the mask and the trailer
+    are the same, and the salt isn't shorter. A key without parameters asks for none."""
+    if of_key is None:
+        return True
+    found, wanted = pss_parameters(given), pss_parameters(of_key)
+    if found is None or wanted is None:
+        return False
+    return found[:2] == wanted[:2] and found.salt_length >= wanted.salt_length
 
 
 def hash_of(name: str) -> HashAlgorithm:

@@ -85,11 +85,12 @@ def revocation_status(
     without_next_update: bool = False,
     use_deltas: bool = False,
 ) -> RevocationStatus:
-    """What CRLs say of a certificate at the moment (RFC 5280 6.3.3), asked in their order: of several for the same reasons the latest comes first.
+    """What CRLs say of a certificate at the moment (RFC 5280 6.3.3), asked in their order; of several for one scope under one key the newest counts, wherever
+    it stands.
 
     A CRL counts where its signature is one by its signer's key, as `verify(public_key, algorithm, message, signature)` says, or else `cryptography`; where the
     signer's name is its issuer; where it is in date, with `without_next_update` also where it doesn't say by when the next one comes; and where it is one for
-    the certificate, as the call `x509_revocation_status` of `x509.h` says. With `use_deltas` the first delta CRL among them that fits a complete one is asked
+    the certificate, as the call `x509_revocation_status` of `x509.h` says. With `use_deltas` the newest delta CRL among them that fits a complete one is asked
     before it (5.2.4); its signer has to be that of the complete one (6.3.3 (h)). Only `is_unrevoked` says that the certificate may be used: who withholds a CRL
     makes its status undetermined.
     """
@@ -116,7 +117,7 @@ def path_revocation_statuses(
     The signer of a CRL is found by its issuer's name, and by the identifier of its key where both say one: the anchor, a certificate of the path, or one of the
     further `certificates`, of which the path to the anchor is found here, and has to be valid, and each certificate in it that isn't in the given path
     unrevoked. A signer counts only where `may_sign_crls` says True, so also of an anchor that is a certificate. The status of a further certificate may be told
-    by a CRL of its own key, but not by one of a signer whose status it tells.
+    by a CRL of its own key; but of signers that tell only each other's status none counts. Who counts doesn't depend on the order of `crls`.
     Of CRLs for the same reasons the latest is asked first, and `crl` is the place in `crls`. `verify`, `without_next_update` and
     `use_deltas` are as of `revocation_status`.
     """
@@ -130,14 +131,14 @@ def path_revocation_statuses(
         settings,
         _verifies if verify is None else verify,
     )
-    return [judge.status(path.certificates[: place + 1]) for place in range(len(path.certificates))]
+    return judge.statuses()
 
 
 _Chain = tuple[Certificate, ...]
 
 
 class _Judge:
-    """The statuses of certificates, each by its chain below the anchor, topmost first."""
+    """The statuses of certificates, each by its chain below the anchor, topmost certificate first."""
 
     def __init__(
         self,
@@ -155,21 +156,48 @@ class _Judge:
         self.name, _ = _name_and_key(anchor)
         # the latest first
         self.places = sorted(range(len(crls)), key=lambda place: crls[place].last_update_utc, reverse=True)
-        self.signed: dict[tuple[int, _Chain], bool] = {}
-        self.found: dict[_Chain, RevocationStatus] = {}
-        self.asked: list[_Chain] = []
         self.chains: dict[Certificate, _Chain | None] = {}
+        # the CRLs by their places, each with those whose key signed it, and which certificates of these have to be unrevoked
+        signed = ((place, signer) for place in self.places for signer in self.signers(crls[place]))
+        self.given = [(place, signer, self.further(signer)) for place, signer in signed if self.is_signed(place, signer)]
+        self.found: dict[tuple[_Chain, tuple[int, ...]], RevocationStatus] = {}
 
-    def status(self, chain: _Chain) -> RevocationStatus:
-        if chain not in self.found:
-            self.asked.append(chain)
-            given = [(place, signer) for place in self.places for signer in self.signers(self.crls[place])]
-            given = [it for it in given if self.is_signed(*it) and self.is_trusted(it[1])]
-            crls = [SignedCrl(self.crls[place], self.holder(signer)) for place, signer in given]
+    def statuses(self) -> list[RevocationStatus]:
+        """Those of the path's certificates, topmost first."""
+        refused: frozenset[_Chain] = frozenset()
+        while True:
+            trusted = self.trusted(refused)
+            # what was told by some of their CRLs may be otherwise by all of them: who is revoked then tells nothing of another
+            revoked = {chain for chain in trusted if not self.status(chain, trusted).is_unrevoked}
+            if not revoked:
+                return [self.status(self.path[: place + 1], trusted) for place in range(len(self.path))]
+            refused |= revoked
+
+    def trusted(self, refused: frozenset[_Chain]) -> frozenset[_Chain]:
+        """The further signers that are unrevoked, by CRLs of those that were found so before them and by their own: so no answer rests on itself round others,
+        and the order of CRLs has no say."""
+        asked = frozenset(chain for _, _, further in self.given for chain in further) - refused
+        trusted: frozenset[_Chain] = frozenset()
+        while True:
+            more = {chain for chain in asked - trusted if self.status(chain, trusted).is_unrevoked}
+            if not more:
+                return trusted
+            trusted |= more
+
+    def status(self, chain: _Chain, trusted: frozenset[_Chain]) -> RevocationStatus:
+        """What is said of the last certificate of the chain by the CRLs of these signers, and by its own."""
+        used = tuple(at for at, (_, _, further) in enumerate(self.given) if all(it in trusted or it == chain for it in further))
+        if (chain, used) not in self.found:
+            given = [self.given[at] for at in used]
+            crls = [SignedCrl(self.crls[place], self.holder(signer)) for place, signer, _ in given]
             status = _asked(chain[-1], crls, [True] * len(crls), self.settings)
-            self.asked.pop()
-            self.found[chain] = status if status.crl is None else dataclasses.replace(status, crl=given[status.crl][0])
-        return self.found[chain]
+            self.found[chain, used] = status if status.crl is None else dataclasses.replace(status, crl=given[status.crl][0])
+        return self.found[chain, used]
+
+    def further(self, chain: _Chain) -> list[_Chain]:
+        """The chains to the certificates of this one that aren't in the path."""
+        chains = (chain[: place + 1] for place in range(len(chain)))
+        return [it for it in chains if it != self.path[: len(it)]]
 
     def holder(self, chain: _Chain) -> Anchor:
         """Whose key it is: that of the last certificate; where there is none, the anchor's."""
@@ -195,20 +223,7 @@ class _Judge:
         return self.name.matches(crl.issuer)
 
     def is_signed(self, place: int, chain: _Chain) -> bool:
-        if (place, chain) not in self.signed:
-            self.signed[place, chain] = _is_signed(SignedCrl(self.crls[place], self.holder(chain)), self.verify)
-        return self.signed[place, chain]
-
-    def is_trusted(self, chain: _Chain) -> bool:
-        """Whether each certificate of the chain is unrevoked that isn't in the path. Of itself a CRL may tell that; else what is being asked for is no
-        answer."""
-        for size in range(1, len(chain) + 1):
-            part = chain[:size]
-            if part == self.path[:size] or (self.asked and part == self.asked[-1]):
-                continue
-            if part in self.asked or not self.status(part).is_unrevoked:
-                return False
-        return True
+        return _is_signed(SignedCrl(self.crls[place], self.holder(chain)), self.verify)
 
     def chain_to(self, certificate: Certificate) -> _Chain | None:
         """A valid path from the anchor to the certificate, if there is one."""

@@ -6,6 +6,7 @@ use Rattle.x509_revocation.specs.Says.{Covers}
 use Rattle.x509_revocation.specs.Status.{AddsTo, minus}
 use Rattle.x509_revocation.proofs.Named.{if_ok}
 use Rattle.x509_revocation.proofs.OneCover.{one_cover, one_list}
+use Rattle.x509_revocation.proofs.Signed.{signer_of}
 use Rattle.x509_revocation.proofs.says.Asked.ask.Goals as goal
 
 pub returns-then-not-is_usable : goal.returns-then-not-is_usable
@@ -32,4 +33,5 @@ returns g c =
     let covers : Covers certificate given.crl c.in-Some.list c.in-Some-covered.reasons = rw c.in-Some-covered.is at (c.in_ok-covered.ensures certificate given.crl lends lent.crl points listed) in
     let ready = (c.in_ok-is_usable.ensures given lent).0 c.if-not-is_usable.false in
     let adds : AddsTo c.args.left c.in-Some-covered.reasons = (λ same. true≢false (sym ((exact_reasons c.minus-rest.result c.args.left).1 (c.minus-rest.ensures ∙ same)) ∙ (sym c.eq.ensures ∙ c.if-eq.false))) in
-    said certificate all given c.in-Some-covered.reasons lends lents lent ready covers adds c.minus-rest.ensures) c.consult.ensures
+    let by = signer_of given.signer given.crl ready.of_signer in
+    said certificate all given c.in-Some-covered.reasons lends lents (record { lends = lent; signer = by.0; is = by.1 }) ready covers adds c.minus-rest.ensures) c.consult.ensures
