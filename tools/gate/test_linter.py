@@ -181,10 +181,11 @@ def field_rules():
         error("unique_identifier_present", "4.1.2.8"),
         NO_SKI,
     ]
-    yield certificate(version=context(0, integer(1)), subject=ISSUER, unique=unique, extensions=None), [error("unique_identifier_present", "4.1.2.8"), NO_SKI]
-    for number in (1, 2):
-        yield certificate(version=context(0, integer(number)), subject=ISSUER, extensions=None), [warning("version_above_v1", "4.1.2.1"), NO_SKI]
-    yield certificate(version=b"", subject=ISSUER, extensions=None), [NO_SKI]
+    yield certificate(version=context(0, integer(1)), unique=unique, extensions=None), [error("unique_identifier_present", "4.1.2.8")]
+    for number, absent in ((1, []), (2, [NO_SKI, NO_AKI])):
+        yield certificate(version=context(0, integer(number)), extensions=None), [warning("version_above_v1", "4.1.2.1"), *absent]
+    for issuer in (ISSUER, SUBJECT):
+        yield certificate(version=b"", issuer=issuer, extensions=None), []
     yield certificate(serial=integer(0)), [error("serial_number_not_positive", "4.1.2.2")]
     yield certificate(serial=element(2, b"\xff")), [error("serial_number_not_positive", "4.1.2.2")]
     yield certificate(serial=integer(1 << 158)), []
@@ -198,7 +199,6 @@ def field_rules():
     yield certificate(version=b"", subject=ISSUER, unique=implicit(2, b"\0\1"), extensions=None), [
         error("unique_identifier_in_v1", "4.1.2.8"),
         error("unique_identifier_present", "4.1.2.8"),
-        NO_SKI,
     ]
 
 
@@ -319,6 +319,45 @@ def malformed_rules():
         yield ca_with(pe(number, NULL)), [malformed(name)]
 
 
+# right, and more than the decoder holds: a UUID as an arc (X.667 6.3), 40 octets of arcs, and an x400Address with a country (RFC 5280 A.1)
+LARGE_OIDS = element(6, b"\x69\x83" + b"\x81" * 17 + b"\1"), element(6, b"\x2a" + b"\1" * 39), element(6, b"\x2a\x90\x80\x80\x80\0")
+X400_ADDRESS = context(3, sequence(element(0x61, element(PRINTABLE_STRING, b"DE"))))
+
+
+def beyond_rules():
+    """What RFC 5280 allows and the decoder doesn't hold, which isn't malformed; where it isn't such an OID or address, it is."""
+    held = element(6, b"\x2a" + b"\1" * 38), element(6, b"\x2a\x8f\xff\xff\xff\x7f")
+    broken = element(6, b"\x2a\x80\1"), element(6, b"\x2a\x81"), element(6), element(6, b"\x2a\x90\x80\x80\x80\x80")
+    findings = {oid: [] for oid in (*LARGE_OIDS, *held)} | {oid: None for oid in broken}
+
+    def told(oid, name):
+        return findings[oid] if findings[oid] is not None else [malformed(name)]
+
+    for oid in findings:
+        yield leaf_with(ce(37, sequence(oid))), told(oid, "extKeyUsage")
+        yield leaf_with(ce(32, sequence(sequence(oid)))), told(oid, "certificatePolicies")
+        yield leaf_with(ce(9, sequence(sequence(oid, set_of(NULL))))), told(oid, "subjectDirectoryAttributes")
+        yield leaf_with(pe(1, sequence(sequence(oid, URI)))), told(oid, "authorityInfoAccess")
+        yield leaf_with(ce(17, sequence(DNS, context(0, oid, context(0, NULL))))), told(oid, "subjectAltName")
+        yield leaf_with(ce(17, sequence(DNS, context(4, sequence(set_of(sequence(oid, element(UTF8_STRING, b"a")))))))), told(oid, "subjectAltName")
+    # an address begins with a SEQUENCE
+    for address, is_address in ((X400_ADDRESS, True), (context(3, NULL), False), (context(3), False)):
+        for number, name, payload in (
+            (17, "subjectAltName", sequence(DNS, address)),
+            (18, "issuerAltName", sequence(address, DNS)),
+            (31, "cRLDistributionPoints", sequence(POINT, sequence(context(0, context(0, address))))),
+            (46, "freshestCRL", sequence(POINT, sequence(context(0, context(0, address))))),
+        ):
+            yield leaf_with(ce(number, payload)), [] if is_address else [malformed(name)]
+    yield ca_with(ce(30, sequence(context(0, sequence(X400_ADDRESS))), True)), []
+    yield leaf_with(pe(1, sequence(sequence(object_identifier(1, 3, 6, 1, 5, 5, 7, 48, 2), X400_ADDRESS)))), []
+    yield certificate(extensions=(ce(35, sequence(KEY_ID, context(1, X400_ADDRESS), implicit(2, b"\1"))), SKI, KU)), []
+    for oid in LARGE_OIDS:
+        yield leaf_with(ce(16, sequence(oid))), [malformed("privateKeyUsagePeriod")]
+        yield certificate(extensions=(AKI, ce(14, oid), KU)), [malformed("subjectKeyIdentifier")]
+    yield leaf_with(ce(37, sequence(X400_ADDRESS))), [malformed("extKeyUsage")]
+
+
 def critical_rules():
     """Which extensions of a certificate are critical (RFC 5280 4.2.1, 4.2.2)."""
     mappings, policies = sequence(sequence(POLICY, object_identifier(1, 2, 3, 5))), ce(32, sequence(sequence(POLICY)))
@@ -341,6 +380,15 @@ def critical_rules():
     yield leaf_with(ce(17, NAMES), ce(18, NAMES), ce(9, ATTRIBUTES), ce(31, sequence(POINT)), ce(46, sequence(POINT)), pe(1, ACCESS)), []
 
 
+def hidden_by(number):
+    """Extensions with a path length that the decoder doesn't read, and what they break beside it (RFC 5280 4.2.1.2, 4.2.1.3, 4.2.1.9)."""
+    long = sequence(TRUE, integer(number))
+    yield (CA_KU, ce(19, long, True)), [error("ca_without_subject_key_identifier", "4.2.1.2")]
+    yield (SKI, ce(19, long, True)), [error("ca_without_key_usage", "4.2.1.3")]
+    yield (SKI, KU, ce(19, long, True)), [error("ca_without_key_cert_sign", "4.2.1.3")]
+    yield (SKI, CA_KU, ce(19, long)), [error("ca_basic_constraints_not_critical", "4.2.1.9")]
+
+
 def authority_rules():
     """What makes a certificate one of a certification authority (RFC 5280 4.2.1.2, 4.2.1.3, 4.2.1.9, 4.2.1.10)."""
     yield certificate(extensions=(AKI, CA_KU, CA_BC)), [error("ca_without_subject_key_identifier", "4.2.1.2")]
@@ -355,7 +403,15 @@ def authority_rules():
         long = ce(19, sequence(TRUE, integer(number)), True)
         yield certificate(extensions=(AKI, SKI, CA_KU, long)), [not_judged("path_len_above_255", "4.2.1.9")]
         yield certificate(extensions=(AKI, SKI, CA_KU, ce(30, sequence(SUBTREES), True), long)), [not_judged("path_len_above_255", "4.2.1.9")]
-        yield certificate(extensions=(AKI, CA_KU, ce(19, sequence(integer(number))))), [not_judged("path_len_above_255", "4.2.1.9")]
+        told = [error("key_cert_sign_without_ca", "4.2.1.9"), error("path_len_without_ca", "4.2.1.9"), not_judged("path_len_above_255", "4.2.1.9")]
+        yield certificate(extensions=(AKI, CA_KU, ce(19, sequence(integer(number))))), [NO_SKI, *told]
+        for extensions, findings in hidden_by(number):
+            yield certificate(extensions=(AKI, *extensions)), [*findings, not_judged("path_len_above_255", "4.2.1.9")]
+        yield certificate(subject=sequence(), extensions=(AKI, SKI, CA_KU, ce(17, NAMES, True), long)), [
+            error("ca_subject_empty", "4.1.2.6"),
+            error("crl_issuer_subject_empty", "4.1.2.6"),
+            not_judged("path_len_above_255", "4.2.1.9"),
+        ]
     for number in (0, 127, 128, 255):
         yield certificate(extensions=(AKI, SKI, CA_KU, ce(19, sequence(TRUE, integer(number)), True))), []
     nameless = [error("subject_empty_without_critical_alt_name", "4.1.2.6")]
@@ -513,7 +569,7 @@ def policy_rules():
     yield leaf_with(ce(32, sequence(sequence(POLICY), sequence(ANY_POLICY), sequence(POLICY)))), [error("certificate_policy_repeated", "4.2.1.4")]
     yield leaf_with(ce(32, sequence(sequence(POLICY), sequence(ANY_POLICY, sequence())))), [error("policy_qualifiers_empty", "4.2.1.4")]
     yield leaf_with(ce(32, sequence(sequence(POLICY), sequence(ANY_POLICY)))), []
-    old, ia5 = [error("explicit_text_type", "4.2.1.4")], [warning("explicit_text_not_utf8_string", "4.2.1.4")]
+    old, ia5 = ["warning explicit_text_not_utf8_string (RFC 6818 3)"], ["error explicit_text_type (RFC 6818 3)"]
     for tag, char, findings in ((UTF8_STRING, "ä".encode(), []), (BMP_STRING, b"\0a", old), (VISIBLE_STRING, b"a", old), (IA5_STRING, b"a", ia5)):
         yield leaf_with(with_text(element(tag, char * 201))), [error("explicit_text_too_long", "4.2.1.4"), *findings]
         yield leaf_with(with_text(element(tag, char * 200))), findings
@@ -550,6 +606,14 @@ def policy_rules():
     yield ca_with(asserted, ce(33, sequence(sequence(ANY_POLICY, POLICY)), True)), [error("policy_mapping_any_policy", "4.2.1.5")]
     yield from mapping_rules()
     yield ca_with(ce(36, sequence(), True)), [error("policy_constraints_empty", "4.2.1.11")]
+    for number in (0, 255, 300, 1 << 31, (1 << 32) - 1, 1 << 32, 1 << 40, 1 << 200):
+        content = integer(number)[2:]
+        yield ca_with(ce(36, sequence(implicit(0, content)), True)), []
+        yield ca_with(ce(36, sequence(implicit(0, content), implicit(1, content)), True)), []
+        yield ca_with(ce(54, integer(number), True)), []
+    for content in (b"\xff", b"\0\1", b""):
+        yield ca_with(ce(36, sequence(implicit(1, content)), True)), [malformed("policyConstraints")]
+        yield ca_with(ce(54, element(2, content), True)), [malformed("inhibitAnyPolicy")]
 
 
 def mapping_rules():
@@ -627,6 +691,10 @@ def point_rules():
     some = sequence(context(0, context(0, URI)), implicit(1, b"\6\x40"))
     yield leaf_with(ce(31, sequence(some, some))), [error("distribution_points_partial", "4.2.1.13")]
     yield leaf_with(ce(31, sequence(some, POINT))), []
+    for number, error_of_all in ((31, error("distribution_points_partial", "4.2.1.13")), (46, error("freshest_crl_points_partial", "4.2.1.15"))):
+        # keyCompromise (1) to aACompromise (8), of which one is left out, or none; the bit 0 is no reason
+        for bits, findings in ((b"\7\x7f\x80", []), (b"\7\xff\x80", []), (b"\0\x7f", [error_of_all]), (b"\7\x3f\x80", [error_of_all]), (b"\7\xfe\x80", [error_of_all])):
+            yield leaf_with(ce(number, sequence(sequence(context(0, context(0, URI)), implicit(1, bits))))), findings
     yield leaf_with(ce(46, sequence())), [error("freshest_crl_empty", "4.2.1.15")]
     yield leaf_with(ce(46, sequence(sequence()))), [error("freshest_crl_point_empty", "4.2.1.15")]
     several = sequence(context(0, context(1, sequence(object_identifier(2, 5, 4, 3), element(UTF8_STRING, b"a")))),
@@ -1000,6 +1068,7 @@ CERTIFICATE_RULES = (
     email_rules,
     list_rules,
     malformed_rules,
+    beyond_rules,
     critical_rules,
     authority_rules,
     key_rules,

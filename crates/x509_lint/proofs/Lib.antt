@@ -1,3 +1,5 @@
 pub mod Broken
+pub mod LargeOids
 pub mod Requested
+pub mod Right
 pub mod SortedOids

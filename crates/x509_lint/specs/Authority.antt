@@ -3,9 +3,9 @@ use Rattle.std.specs.Prelude.{◌&&◌, ◌||◌, ◌==◌, ℕ, length, nat_lt,
 use Rattle.x509_ext.specs.KeyUsage.{has_bit}
 use Rattle.x509_ext.specs.declared.extension.Extension.{Extension}
 use Rattle.x509_prim.specs.Integer.{without_zeros}
-use Rattle.x509_ext.specs.declared.pkix.basic_constraints.BasicConstraints.{BasicConstraints}
 use Rattle.x509_ext.specs.declared.pkix.key_usage.KeyUsage.{KeyUsage}
 use Rattle.x509_ext.specs.Identifiers.{id_ce}
+use Rattle.x509_lint.specs.Field.{is_v3}
 use Rattle.x509_lint.specs.Words.{Certificate, extensions_of, has, has_uncritical, is_empty, passes}
 use Rattle.x509_lint.specs.declared.basic_constraints.AnyBasicConstraints.{AnyBasicConstraints}
 use Rattle.x509_lint.specs.declared.values.AuthorityValues.{AuthorityValues}
@@ -14,18 +14,18 @@ use Rattle.x509_lint.specs.declared.rule.authority.AuthorityRule.TheVariants.{Ca
 use Rattle.x509_lint.specs.Wording.{Wording, must, should, not_judged}
 
 -- cA is set
-abbrev pub is_ca : Option BasicConstraints → Bool
+abbrev pub is_ca : Option AnyBasicConstraints → Bool
 is_ca constraints = passes (λ b. b.ca) constraints
 
 -- there is no BasicConstraints, or the one that there is is read and doesn't set cA
-abbrev pub is_no_ca : List Extension → Option BasicConstraints → Bool
+abbrev pub is_no_ca : List Extension → Option AnyBasicConstraints → Bool
 is_no_ca extensions constraints = not (has (id_ce 19) extensions) || passes (λ b. not b.ca) constraints
 
 -- no bit is set
 abbrev pub has_no_bit : KeyUsage → Bool
 has_no_bit usage = usage.0.0 == 0
 
-abbrev pub has_path_len : Option BasicConstraints → Bool
+abbrev pub has_path_len : Option AnyBasicConstraints → Bool
 has_path_len constraints = passes (λ b. is_some b.path_len_constraint) constraints
 
 -- a path length of two octets or more, which is above 255
@@ -36,14 +36,14 @@ abbrev pub breaks_authority : Certificate → AuthorityValues → AuthorityRule 
 breaks_authority c v CaSubjectEmpty = is_ca v.basic_constraints && is_empty c.tbs_certificate.subject
 breaks_authority c v CrlIssuerSubjectEmpty = passes (λ u. has_bit u 6) v.key_usage && is_empty c.tbs_certificate.subject
 breaks_authority c v CaWithoutSubjectKeyIdentifier = is_ca v.basic_constraints && not (has (id_ce 14) (extensions_of c))
-breaks_authority c v SubjectKeyIdentifierAbsent = is_no_ca (extensions_of c) v.basic_constraints && not (has (id_ce 14) (extensions_of c))
+breaks_authority c v SubjectKeyIdentifierAbsent = is_v3 c.tbs_certificate.version && is_no_ca (extensions_of c) v.basic_constraints && not (has (id_ce 14) (extensions_of c))
 breaks_authority c v CaWithoutKeyUsage = is_ca v.basic_constraints && not (has (id_ce 15) (extensions_of c))
 breaks_authority c v KeyUsageEmpty = passes has_no_bit v.key_usage
 breaks_authority c v CaWithoutKeyCertSign = is_ca v.basic_constraints && passes (λ u. not (has_no_bit u) && not (has_bit u 5)) v.key_usage
 breaks_authority c v KeyCertSignWithoutCa = is_no_ca (extensions_of c) v.basic_constraints && passes (λ u. has_bit u 5) v.key_usage
 breaks_authority c v CaBasicConstraintsNotCritical = is_ca v.basic_constraints && has_uncritical (id_ce 19) (extensions_of c)
 breaks_authority c v PathLenWithoutCa = not (is_ca v.basic_constraints) && has_path_len v.basic_constraints
-breaks_authority c v PathLenNotJudged = passes is_long_path v.any_basic_constraints
+breaks_authority c v PathLenNotJudged = passes is_long_path v.basic_constraints
 breaks_authority c v NameConstraintsInLeaf = is_no_ca (extensions_of c) v.basic_constraints && has (id_ce 30) (extensions_of c)
 
 -- ---- the order, and how each is told

@@ -4,6 +4,7 @@ use Rattle.std.specs.List.{list_any}
 use Rattle.x509_ext.specs.declared.pkix.authority_key_identifier.AuthorityKeyIdentifier.{AuthorityKeyIdentifier}
 use Rattle.x509_ext.specs.Identifiers.{id_ce}
 use Rattle.x509_name.specs.Names.{rdn_sequence_eq}
+use Rattle.x509_lint.specs.Field.{is_v3}
 use Rattle.x509_lint.specs.Words.{Certificate, extensions_of, has, has_critical, is_empty, passes}
 use Rattle.x509_lint.specs.declared.values.KeyValues.{KeyValues}
 use Rattle.x509_lint.specs.declared.rule.key.KeyRule.{KeyRule}
@@ -25,7 +26,7 @@ has_half_issuer a =
     || (is_some a.authority_cert_serial_number && not (is_some a.authority_cert_issuer))
 
 abbrev pub breaks_key : Certificate → KeyValues → KeyRule → Bool
-breaks_key c v AuthorityKeyIdentifierAbsent = not (has (id_ce 35) (extensions_of c)) && not (is_self_issued c)
+breaks_key c v AuthorityKeyIdentifierAbsent = is_v3 c.tbs_certificate.version && not (has (id_ce 35) (extensions_of c)) && not (is_self_issued c)
 breaks_key c v AuthorityKeyIdentifierWithoutKey = passes (λ a. not (is_some a.key_identifier)) v.authority_key_identifier
 breaks_key c v AuthorityCertIssuerEmpty = passes (λ a. passes is_empty a.authority_cert_issuer) v.authority_key_identifier
 breaks_key c v AuthorityCertIssuerAndSerialApart = passes has_half_issuer v.authority_key_identifier

@@ -3,7 +3,9 @@ pub mod Words
 pub mod Dns
 pub mod Uri
 pub mod BasicConstraints
+pub mod SkipCerts
 pub mod Notices
+pub mod Beyond
 pub mod Place
 pub mod Read
 pub mod Values

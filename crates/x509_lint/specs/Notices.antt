@@ -1,4 +1,4 @@
--- What is wrong with user notices (RFC 5280 4.2.1.4).
+-- What is wrong with user notices (RFC 5280 4.2.1.4, RFC 6818 3).
 use Rattle.std.specs.Prelude.{ℕ, ◌/◌, Bool, true, false, ◌&&◌, ◌||◌, ◌==◌, not, nat_le, nat_lt, List, length, Option, Some, None, Result, Ok, Err, bytes_eq, is_some}
 use Rattle.std.specs.List.{list_any}
 use Rattle.std.specs.Str.{chars}
@@ -26,14 +26,14 @@ char_count (VisibleString text) = length text
 char_count (BmpString octets) = length octets / 2
 char_count (Utf8String text) = length (chars text)
 
--- a VisibleString or a BMPString, which authorities don't write
+-- a VisibleString or a BMPString, which authorities may write in place of a UTF8String (RFC 6818 3)
 abbrev pub is_old_text : DisplayText → Bool
 is_old_text (Ia5String text) = false
 is_old_text (VisibleString text) = true
 is_old_text (BmpString octets) = true
 is_old_text (Utf8String text) = false
 
--- an IA5String, which they may write
+-- an IA5String, which they don't write
 abbrev pub is_ia5_text : DisplayText → Bool
 is_ia5_text (Ia5String text) = true
 is_ia5_text (VisibleString text) = false

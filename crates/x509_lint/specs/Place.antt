@@ -1,6 +1,7 @@
 -- Places where CRLs and certificates are found: distribution points and access descriptions (RFC 5280 4.2.1.13, 4.2.2).
 use Rattle.std.specs.Prelude.{◌&&◌, ◌||◌, ◌==◌, ℕ, Bool, true, false, not, nat_lt, length, List, [], ◌∷◌, bytes_eq, is_some}
 use Rattle.std.specs.List.{list_all, list_any, slice_get}
+use Rattle.std.specs.Int.RustNames.{bit_and}
 use Rattle.x509_ext.specs.Identifiers.{id_pkix}
 use Rattle.x509_ext.specs.declared.pkix.access.AccessDescription.{AccessDescription}
 use Rattle.x509_ext.specs.declared.pkix.distribution_point.DistributionPoint.{DistributionPoint}
@@ -8,6 +9,7 @@ use Rattle.x509_ext.specs.declared.pkix.name.distribution_point_name.Distributio
 use Rattle.x509_ext.specs.declared.pkix.name.distribution_point_name.DistributionPointName.TheVariants.{FullName, NameRelativeToCRLIssuer}
 use Rattle.x509_ext.specs.declared.pkix.name.general_name.GeneralName.{GeneralName}
 use Rattle.x509_ext.specs.declared.pkix.name.general_name.GeneralName.TheVariants.{OtherName, Rfc822Name, DnsName, DirectoryName, EdiPartyName, UniformResourceIdentifier, IpAddress, RegisteredId}
+use Rattle.x509_ext.specs.declared.pkix.reasons.Reasons.{Reasons}
 use Rattle.x509_name.specs.Names.{rdn_sequence_eq}
 use Rattle.x509_name.specs.declared.attr.type_and_value.AttributeTypeAndValue.{AttributeTypeAndValue}
 use Rattle.x509_lint.specs.Uri.{has_attributes, has_dn, has_ldap_host, has_one_attribute}
@@ -81,9 +83,17 @@ is_this_name name other = false
 abbrev pub is_point_of : List (List AttributeTypeAndValue) → DistributionPoint → Bool
 is_point_of name p = passes (λ names. list_any (is_this_name name) names) p.crl_issuer
 
--- there are points, and each has reasons, so none covers all
+-- some reason isn't among these: of the named bits, keyCompromise (1) to aACompromise (8) are reasons
+abbrev pub leaves_reason : Reasons → Bool
+leaves_reason reasons = not (bit_and reasons.0 510 == 510)
+
+-- the point has reasons, and not all
+abbrev pub is_partial_point : DistributionPoint → Bool
+is_partial_point p = passes leaves_reason p.reasons
+
+-- there are points, and none is one of a CRL that covers all reasons
 abbrev pub are_partial : List DistributionPoint → Bool
-are_partial points = not (is_empty points) && list_all (λ p. is_some p.reasons) points
+are_partial points = not (is_empty points) && list_all is_partial_point points
 
 -- what is wrong with a point
 abbrev pub is_faulty_point : PointFault → DistributionPoint → Bool

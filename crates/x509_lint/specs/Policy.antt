@@ -1,4 +1,4 @@
--- The rules on certificate policies, policy mappings and policy constraints (RFC 5280 4.2.1.4, 4.2.1.5, 4.2.1.11): what breaks each, their order, and how each is told.
+-- The rules on certificate policies, policy mappings and policy constraints (RFC 5280 4.2.1.4, 4.2.1.5, 4.2.1.11; RFC 6818 3): what breaks each, their order, and how each is told.
 use Rattle.std.specs.Prelude.{◌&&◌, ◌||◌, Bool, not, ℕ, List, [], ◌∷◌, bytes_eq, codes, is_some}
 use Rattle.std.specs.List.{list_any}
 use Rattle.x509_ext.specs.Identifiers.{id_ce, id_pkix}
@@ -9,7 +9,7 @@ use Rattle.x509_lint.specs.Words.{Certificate, extensions_of, has, is_empty, pas
 use Rattle.x509_lint.specs.declared.values.PolicyValues.{PolicyValues}
 use Rattle.x509_lint.specs.declared.rule.policy.PolicyRule.{PolicyRule}
 use Rattle.x509_lint.specs.declared.rule.policy.PolicyRule.TheVariants.{CertificatePoliciesEmpty, CertificatePolicyRepeated, PolicyQualifiersEmpty, AnyPolicyQualifierInvalid, ExplicitTextTooLong, ExplicitTextEmpty, ExplicitTextType, ExplicitTextNotUtf8String, ExplicitTextControl, NoticeReferencePresent, ExplicitTextNotNormalized, PolicyMappingsEmpty, PolicyMappingAnyPolicy, PolicyMappingNotAsserted, PolicyConstraintsEmpty}
-use Rattle.x509_lint.specs.Wording.{Wording, must, should}
+use Rattle.x509_lint.specs.Wording.{Wording, must, must_of, should, should_of}
 
 -- the content octets of 2.5.29.32.0, anyPolicy (RFC 5280 4.2.1.4)
 abbrev pub any_policy : List ℕ
@@ -37,8 +37,8 @@ breaks_policy c v PolicyQualifiersEmpty = passes (λ p. list_any (λ policy. pas
 breaks_policy c v AnyPolicyQualifierInvalid = passes (λ p. list_any has_other_qualifier p.0) v.certificate_policies
 breaks_policy c v ExplicitTextTooLong = v.has_long_text
 breaks_policy c v ExplicitTextEmpty = v.has_empty_text
-breaks_policy c v ExplicitTextType = v.has_old_text
-breaks_policy c v ExplicitTextNotUtf8String = v.has_ia5_text
+breaks_policy c v ExplicitTextType = v.has_ia5_text
+breaks_policy c v ExplicitTextNotUtf8String = v.has_old_text
 breaks_policy c v ExplicitTextControl = v.has_control
 breaks_policy c v NoticeReferencePresent = v.has_reference
 breaks_policy c v ExplicitTextNotNormalized = v.has_unnormalized
@@ -59,8 +59,8 @@ policy_wording PolicyQualifiersEmpty = must (codes "policy_qualifiers_empty") (c
 policy_wording AnyPolicyQualifierInvalid = must (codes "any_policy_qualifier_invalid") (codes "4.2.1.4") (codes "tbsCertificate.extensions.certificatePolicies")
 policy_wording ExplicitTextTooLong = must (codes "explicit_text_too_long") (codes "4.2.1.4") (codes "tbsCertificate.extensions.certificatePolicies")
 policy_wording ExplicitTextEmpty = must (codes "explicit_text_empty") (codes "4.2.1.4") (codes "tbsCertificate.extensions.certificatePolicies")
-policy_wording ExplicitTextType = must (codes "explicit_text_type") (codes "4.2.1.4") (codes "tbsCertificate.extensions.certificatePolicies")
-policy_wording ExplicitTextNotUtf8String = should (codes "explicit_text_not_utf8_string") (codes "4.2.1.4") (codes "tbsCertificate.extensions.certificatePolicies")
+policy_wording ExplicitTextType = must_of (codes "RFC 6818") (codes "explicit_text_type") (codes "3") (codes "tbsCertificate.extensions.certificatePolicies")
+policy_wording ExplicitTextNotUtf8String = should_of (codes "RFC 6818") (codes "explicit_text_not_utf8_string") (codes "3") (codes "tbsCertificate.extensions.certificatePolicies")
 policy_wording ExplicitTextControl = should (codes "explicit_text_control") (codes "4.2.1.4") (codes "tbsCertificate.extensions.certificatePolicies")
 policy_wording NoticeReferencePresent = should (codes "notice_reference_present") (codes "4.2.1.4") (codes "tbsCertificate.extensions.certificatePolicies")
 policy_wording ExplicitTextNotNormalized = should (codes "explicit_text_not_normalized") (codes "4.2.1.4") (codes "tbsCertificate.extensions.certificatePolicies")

@@ -5,7 +5,6 @@ use Rattle.x509_der.specs.Form.{Form}
 use Rattle.x509_ext.specs.Access.{authority_info_access_syntax, subject_info_access_syntax}
 use Rattle.x509_ext.specs.AlternativeNames.{issuer_alt_name, subject_alt_name}
 use Rattle.x509_ext.specs.AuthorityKeyIdentifier.{authority_key_identifier}
-use Rattle.x509_ext.specs.BasicConstraints.{basic_constraints}
 use Rattle.x509_ext.specs.ExtendedKeyUsage.{extended_key_usage}
 use Rattle.x509_ext.specs.KeyUsage.{key_usage}
 use Rattle.x509_ext.specs.PrivateKeyUsagePeriod.{private_key_usage_period}
@@ -26,11 +25,11 @@ use Rattle.x509_ext.specs.declared.pkix.policy_information.PolicyInformation.{Po
 use Rattle.x509_ext.specs.declared.pkix.policy_mapping.PolicyMapping.{PolicyMapping}
 use Rattle.x509_ext.specs.declared.pkix.policy_mapping.PolicyMappings.{PolicyMappings}
 use Rattle.x509_der.specs.Set.{AreDistinct}
-use Rattle.x509_ext.specs.PolicyConstraints.{policy_constraints}
 use Rattle.x509_ext.specs.PolicyMapping.{policy_mappings}
 use Rattle.x509_lint.specs.BasicConstraints.{any_basic_constraints}
 use Rattle.x509_lint.specs.Notices.{has_faulty_notice}
 use Rattle.x509_lint.specs.declared.notices.NoticeFault.TheVariants.{Long, NoText, OldType, Ia5Type, Control, Reference, Unnormalized}
+use Rattle.x509_lint.specs.SkipCerts.{any_policy_constraints}
 use Rattle.x509_lint.specs.Read.{AreExtensionsRead, IsCrlRead}
 use Rattle.x509_lint.specs.Words.{Certificate, Crl, IsValue, crl_extensions_of, extensions_of, passes}
 use Rattle.x509_lint.specs.declared.facts.CertificateFacts.{CertificateFacts}
@@ -68,8 +67,7 @@ has_unasserted policies mappings = passes (λ m. list_any (is_unasserted policie
 
 abbrev pub AreAuthorityValues : List Extension → AuthorityValues → Type 0
 AreAuthorityValues extensions v =
-    IsValue basic_constraints (id_ce 19) extensions v.basic_constraints × IsValue any_basic_constraints (id_ce 19) extensions v.any_basic_constraints
-    × IsValue key_usage (id_ce 15) extensions v.key_usage
+    IsValue any_basic_constraints (id_ce 19) extensions v.basic_constraints × IsValue key_usage (id_ce 15) extensions v.key_usage
 
 abbrev pub AreKeyValues : List Extension → KeyValues → Type 0
 AreKeyValues extensions v =
@@ -84,7 +82,7 @@ abbrev pub ArePolicyValues : List Extension → PolicyValues → Type 0
 ArePolicyValues extensions v =
     IsValue certificate_policies (id_ce 32) extensions v.certificate_policies
     × IsValue policy_mappings (id_ce 33) extensions v.policy_mappings
-    × IsValue policy_constraints (id_ce 36) extensions v.policy_constraints
+    × IsValue any_policy_constraints (id_ce 36) extensions v.policy_constraints
     × (IsTrue v.are_policies_distinct ↔ AreDistinct (policy_identifiers (policies_of v.certificate_policies)))
     × (v.has_long_text ≡ has_faulty_notice Long v.certificate_policies)
     × (v.has_empty_text ≡ has_faulty_notice NoText v.certificate_policies)

@@ -6,6 +6,7 @@
 mod anchor;
 mod asserted;
 mod basic_constraints;
+mod beyond;
 mod certificate;
 mod crl;
 mod dates;
@@ -24,6 +25,7 @@ mod report;
 mod request;
 pub mod rule;
 pub mod seen;
+mod skip_certs;
 mod texts;
 mod times;
 mod uris;

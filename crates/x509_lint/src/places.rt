@@ -1,12 +1,13 @@
 //! What is asked of places where CRLs and certificates are found.
 
 ghost use Rattle.std.specs.List.{list_all, list_any};
-ghost use Rattle.std.specs.Prelude.{◌≡◌, ◌&&◌, bytes_eq, is_some, not};
+ghost use Rattle.std.specs.Prelude.{◌≡◌, ◌&&◌, bytes_eq, not};
 ghost use Rattle.x509_lint.specs.Place as place;
 ghost use Rattle.x509_lint.specs.Words.{passes};
 
 use crate::passes;
 use crate::uris::{has_attributes, has_dn, has_ldap_host, has_one_attribute};
+use bitflags::Flags;
 use x509_der::{ObjectIdentifier, oid};
 use x509_ext::pkix::AccessDescription;
 use x509_ext::pkix::crl::dp::DistributionPoint;
@@ -18,6 +19,9 @@ pub(crate) const CA_ISSUERS: ObjectIdentifier = oid!(0x2B, 0x06, 0x01, 0x05, 0x0
 
 /// id-ad-caRepository, 1.3.6.1.5.5.7.48.5 (RFC 5280 4.2.2.2).
 pub(crate) const CA_REPOSITORY: ObjectIdentifier = oid!(0x2B, 0x06, 0x01, 0x05, 0x05, 0x07, 48, 5);
+
+/// keyCompromise (1) to aACompromise (8), as a set of bits (RFC 5280 4.2.1.13).
+const ALL_REASONS: u16 = 510;
 
 /// What may be wrong with a distribution point (RFC 5280 4.2.1.13, 5.2.6).
 #[derive(Clone, Copy, Debug, PartialEq, Eq)]
@@ -224,17 +228,24 @@ pub(crate) fn has_fault(fault: PointFault, points: &[DistributionPoint]) -> bool
     points.iter().any(|point| is_faulty(fault, point))
 }
 
-/// Whether there are points, and each has reasons.
+/// Whether the point has reasons, and some reason isn't among them.
+fn is_partial(point: &DistributionPoint) -> bool
+    ensures { result ≡ place.is_partial_point point.now }
+{
+    passes!(&point.reasons, reasons => reasons.bits() & ALL_REASONS != ALL_REASONS)
+}
+
+/// Whether there are points, and none is one of a CRL that covers all reasons.
 pub(crate) fn are_partial(points: &[DistributionPoint]) -> bool
     ensures { result ≡ place.are_partial points.now }
 {
-    !points.is_empty() && have_reasons(points)
+    !points.is_empty() && are_all_partial(points)
 }
 
-fn have_reasons(points: &[DistributionPoint]) -> bool
-    ensures { result ≡ list_all (λ p. is_some p.reasons) points.now }
+fn are_all_partial(points: &[DistributionPoint]) -> bool
+    ensures { result ≡ list_all place.is_partial_point points.now }
 {
-    points.iter().all(|point| point.reasons.is_some())
+    points.iter().all(|point| is_partial(point))
 }
 
 fn is_this_name(name: &Name, other: &GeneralName) -> bool

@@ -1,22 +1,24 @@
-//! Which types of extensions are read: the octets of each extension of the type are an encoding of the type that RFC 5280 has for its OID.
+//! Which types of extensions are right: the octets of each extension of the type are an encoding of the type that RFC 5280 has for its OID, or they have what this
+//! library can't hold.
 
 ghost use Rattle.std.specs.List.{All};
 ghost use Rattle.std.specs.Prelude.{◌≡◌, ◌↔◌, IfErr, IfOk, IsTrue};
 ghost use Rattle.x509_der.specs.Form.{Spells};
 ghost use Rattle.x509_der.specs.declared.error.ErrorKind.TheVariants.{Memory};
-ghost use Rattle.x509_lint.specs.Read.{AreExtensionsRead, AreKeysRead, AreNamesRead, ArePoliciesRead, IsCrlRead, IsWellFormedAs, is_crl_read, is_read};
+ghost use Rattle.x509_lint.specs.Read.{AreExtensionsRead, AreKeysRead, AreNamesRead, ArePoliciesRead, IsCrlRead, IsRight, IsWellFormedAs, is_crl_read, is_read};
 
 use crate::basic_constraints::AnyBasicConstraints;
+use crate::beyond::{Beyond, has_beyond};
 use crate::rule::{CrlExtensionKind, ExtensionKind};
+use crate::skip_certs::{AnyInhibitAnyPolicy, AnyPolicyConstraints};
 use std::alloc::Global;
 use x509_der::{AssociatedOid, Decode, Error, ErrorKind};
 use x509_ext::Extension;
 use x509_ext::pkix::{
     AuthorityInfoAccessSyntax, AuthorityKeyIdentifier, BaseCrlNumber, CertificatePolicies,
-    CrlDistributionPoints, CrlNumber, ExtendedKeyUsage, FreshestCrl, InhibitAnyPolicy,
-    IssuerAltName, IssuingDistributionPoint, KeyUsage, NameConstraints, PolicyConstraints,
-    PolicyMappings, PrivateKeyUsagePeriod, SubjectAltName, SubjectDirectoryAttributes,
-    SubjectInfoAccessSyntax, SubjectKeyIdentifier,
+    CrlDistributionPoints, CrlNumber, ExtendedKeyUsage, FreshestCrl, IssuerAltName,
+    IssuingDistributionPoint, KeyUsage, NameConstraints, PolicyMappings, PrivateKeyUsagePeriod,
+    SubjectAltName, SubjectDirectoryAttributes, SubjectInfoAccessSyntax, SubjectKeyIdentifier,
 };
 
 /// Which of the types of keys, of their use, and of basic constraints are read.
@@ -86,30 +88,44 @@ fn is_decodable<T: Decode + Drop>(alloc: Global, octets: &[u8]) -> Result<bool, 
     }
 }
 
-/// Whether the octets of the extension are an encoding of the type, where it has the OID of the type.
+/// Whether they are, or have what can't be held.
+fn is_right<T: Decode + Drop>(alloc: Global, beyond: Beyond, octets: &[u8]) -> Result<bool, Error>
+    ensures ok { IfOk result (λ b. IsTrue b ↔ IsRight T.form beyond octets.now) }
+    ensures err { IfErr result (λ e. e.kind ≡ Memory) }
+{
+    let is_decodable = is_decodable::<T>(alloc, octets)?;
+    if is_decodable {
+        return Ok(true);
+    }
+    Ok(has_beyond(beyond, octets))
+}
+
+/// Whether that holds of the octets of the extension, where it has the OID of the type.
 fn is_well_formed_as<T: AssociatedOid + Decode + Drop>(
     alloc: Global,
+    beyond: Beyond,
     extension: &Extension,
 ) -> Result<bool, Error>
-    ensures ok { IfOk result (λ b. IsTrue b ↔ IsWellFormedAs T.form T.OID extension.now) }
+    ensures ok { IfOk result (λ b. IsTrue b ↔ IsWellFormedAs T.form beyond T.OID extension.now) }
     ensures err { IfErr result (λ e. e.kind ≡ Memory) }
 {
     if extension.extn_id != T::OID {
         return Ok(true);
     }
-    is_decodable::<T>(alloc, extension.extn_value.as_bytes())
+    is_right::<T>(alloc, beyond, extension.extn_value.as_bytes())
 }
 
 /// Whether that holds of each extension.
 fn are_read<T: AssociatedOid + Decode + Drop>(
     alloc: Global,
+    beyond: Beyond,
     extensions: &[Extension],
 ) -> Result<bool, Error>
-    ensures ok { IfOk result (λ b. IsTrue b ↔ All (IsWellFormedAs T.form T.OID) extensions.now) }
+    ensures ok { IfOk result (λ b. IsTrue b ↔ All (IsWellFormedAs T.form beyond T.OID) extensions.now) }
     ensures err { IfErr result (λ e. e.kind ≡ Memory) }
 {
     for extension in extensions {
-        if !is_well_formed_as::<T>(alloc, extension)? {
+        if !is_well_formed_as::<T>(alloc, beyond, extension)? {
             return Ok(false);
         }
     }
@@ -122,12 +138,24 @@ fn keys_read(alloc: Global, extensions: &[Extension]) -> Result<KeysRead, Error>
     ensures err { IfErr result (λ e. e.kind ≡ Memory) }
 {
     Ok(KeysRead {
-        authority_key_identifier: are_read::<AuthorityKeyIdentifier>(alloc, extensions)?,
-        subject_key_identifier: are_read::<SubjectKeyIdentifier>(alloc, extensions)?,
-        key_usage: are_read::<KeyUsage>(alloc, extensions)?,
-        extended_key_usage: are_read::<ExtendedKeyUsage>(alloc, extensions)?,
-        private_key_usage_period: are_read::<PrivateKeyUsagePeriod>(alloc, extensions)?,
-        basic_constraints: are_read::<AnyBasicConstraints>(alloc, extensions)?,
+        authority_key_identifier: are_read::<AuthorityKeyIdentifier>(
+            alloc,
+            Beyond::Names,
+            extensions,
+        )?,
+        subject_key_identifier: are_read::<SubjectKeyIdentifier>(
+            alloc,
+            Beyond::Nothing,
+            extensions,
+        )?,
+        key_usage: are_read::<KeyUsage>(alloc, Beyond::Nothing, extensions)?,
+        extended_key_usage: are_read::<ExtendedKeyUsage>(alloc, Beyond::Identifiers, extensions)?,
+        private_key_usage_period: are_read::<PrivateKeyUsagePeriod>(
+            alloc,
+            Beyond::Nothing,
+            extensions,
+        )?,
+        basic_constraints: are_read::<AnyBasicConstraints>(alloc, Beyond::Nothing, extensions)?,
     })
 }
 
@@ -137,12 +165,20 @@ fn names_read(alloc: Global, extensions: &[Extension]) -> Result<NamesRead, Erro
     ensures err { IfErr result (λ e. e.kind ≡ Memory) }
 {
     Ok(NamesRead {
-        subject_alt_name: are_read::<SubjectAltName>(alloc, extensions)?,
-        issuer_alt_name: are_read::<IssuerAltName>(alloc, extensions)?,
-        subject_directory_attributes: are_read::<SubjectDirectoryAttributes>(alloc, extensions)?,
-        name_constraints: are_read::<NameConstraints>(alloc, extensions)?,
-        authority_info_access: are_read::<AuthorityInfoAccessSyntax>(alloc, extensions)?,
-        subject_info_access: are_read::<SubjectInfoAccessSyntax>(alloc, extensions)?,
+        subject_alt_name: are_read::<SubjectAltName>(alloc, Beyond::Names, extensions)?,
+        issuer_alt_name: are_read::<IssuerAltName>(alloc, Beyond::Names, extensions)?,
+        subject_directory_attributes: are_read::<SubjectDirectoryAttributes>(
+            alloc,
+            Beyond::Identifiers,
+            extensions,
+        )?,
+        name_constraints: are_read::<NameConstraints>(alloc, Beyond::Names, extensions)?,
+        authority_info_access: are_read::<AuthorityInfoAccessSyntax>(
+            alloc,
+            Beyond::Names,
+            extensions,
+        )?,
+        subject_info_access: are_read::<SubjectInfoAccessSyntax>(alloc, Beyond::Names, extensions)?,
     })
 }
 
@@ -152,12 +188,20 @@ fn policies_read(alloc: Global, extensions: &[Extension]) -> Result<PoliciesRead
     ensures err { IfErr result (λ e. e.kind ≡ Memory) }
 {
     Ok(PoliciesRead {
-        certificate_policies: are_read::<CertificatePolicies>(alloc, extensions)?,
-        policy_mappings: are_read::<PolicyMappings>(alloc, extensions)?,
-        policy_constraints: are_read::<PolicyConstraints>(alloc, extensions)?,
-        inhibit_any_policy: are_read::<InhibitAnyPolicy>(alloc, extensions)?,
-        crl_distribution_points: are_read::<CrlDistributionPoints>(alloc, extensions)?,
-        freshest_crl: are_read::<FreshestCrl>(alloc, extensions)?,
+        certificate_policies: are_read::<CertificatePolicies>(
+            alloc,
+            Beyond::Identifiers,
+            extensions,
+        )?,
+        policy_mappings: are_read::<PolicyMappings>(alloc, Beyond::Identifiers, extensions)?,
+        policy_constraints: are_read::<AnyPolicyConstraints>(alloc, Beyond::Nothing, extensions)?,
+        inhibit_any_policy: are_read::<AnyInhibitAnyPolicy>(alloc, Beyond::Nothing, extensions)?,
+        crl_distribution_points: are_read::<CrlDistributionPoints>(
+            alloc,
+            Beyond::Names,
+            extensions,
+        )?,
+        freshest_crl: are_read::<FreshestCrl>(alloc, Beyond::Names, extensions)?,
     })
 }
 
@@ -183,13 +227,25 @@ pub(crate) fn crl_read(alloc: Global, extensions: &[Extension]) -> Result<CrlRea
     ensures err { IfErr result (λ e. e.kind ≡ Memory) }
 {
     Ok(CrlRead {
-        authority_key_identifier: are_read::<AuthorityKeyIdentifier>(alloc, extensions)?,
-        issuer_alt_name: are_read::<IssuerAltName>(alloc, extensions)?,
-        crl_number: are_read::<CrlNumber>(alloc, extensions)?,
-        delta_crl_indicator: are_read::<BaseCrlNumber>(alloc, extensions)?,
-        issuing_distribution_point: are_read::<IssuingDistributionPoint>(alloc, extensions)?,
-        freshest_crl: are_read::<FreshestCrl>(alloc, extensions)?,
-        authority_info_access: are_read::<AuthorityInfoAccessSyntax>(alloc, extensions)?,
+        authority_key_identifier: are_read::<AuthorityKeyIdentifier>(
+            alloc,
+            Beyond::Names,
+            extensions,
+        )?,
+        issuer_alt_name: are_read::<IssuerAltName>(alloc, Beyond::Names, extensions)?,
+        crl_number: are_read::<CrlNumber>(alloc, Beyond::Nothing, extensions)?,
+        delta_crl_indicator: are_read::<BaseCrlNumber>(alloc, Beyond::Nothing, extensions)?,
+        issuing_distribution_point: are_read::<IssuingDistributionPoint>(
+            alloc,
+            Beyond::Names,
+            extensions,
+        )?,
+        freshest_crl: are_read::<FreshestCrl>(alloc, Beyond::Names, extensions)?,
+        authority_info_access: are_read::<AuthorityInfoAccessSyntax>(
+            alloc,
+            Beyond::Names,
+            extensions,
+        )?,
     })
 }
 

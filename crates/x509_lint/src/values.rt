@@ -10,23 +10,21 @@ use crate::basic_constraints::AnyBasicConstraints;
 use crate::extensions::payload;
 use crate::notices::{NoticeFault, has_faulty_notice};
 use crate::repeats::{are_policies_distinct, policies_of};
+use crate::skip_certs::AnyPolicyConstraints;
 use std::alloc::Global;
 use x509_der::Error;
 use x509_ext::Extension;
 use x509_ext::pkix::{
-    AuthorityInfoAccessSyntax, AuthorityKeyIdentifier, BasicConstraints, CertificatePolicies,
-    CrlDistributionPoints, CrlNumber, ExtendedKeyUsage, FreshestCrl, IssuerAltName,
-    IssuingDistributionPoint, KeyUsage, NameConstraints, PolicyConstraints, PolicyMappings,
-    PrivateKeyUsagePeriod, SubjectAltName, SubjectDirectoryAttributes, SubjectInfoAccessSyntax,
+    AuthorityInfoAccessSyntax, AuthorityKeyIdentifier, CertificatePolicies, CrlDistributionPoints,
+    CrlNumber, ExtendedKeyUsage, FreshestCrl, IssuerAltName, IssuingDistributionPoint, KeyUsage,
+    NameConstraints, PolicyMappings, PrivateKeyUsagePeriod, SubjectAltName,
+    SubjectDirectoryAttributes, SubjectInfoAccessSyntax,
 };
 
 /// The basic constraints and the key usage of a certificate, by which it is or isn't one of a certification authority (CA).
 #[derive(Debug)]
 pub(crate) struct AuthorityValues {
-    pub(crate) basic_constraints: Option<BasicConstraints>,
-
-    /// The basic constraints with a path length of any size.
-    pub(crate) any_basic_constraints: Option<AnyBasicConstraints>,
+    pub(crate) basic_constraints: Option<AnyBasicConstraints>,
     pub(crate) key_usage: Option<KeyUsage>,
 }
 
@@ -34,7 +32,6 @@ impl Drop for AuthorityValues {
     fn drop(self) {
         let AuthorityValues {
             basic_constraints: _,
-            any_basic_constraints: _,
             key_usage: _,
         } = self;
     }
@@ -49,7 +46,6 @@ pub(crate) fn authority_values(
 {
     Ok(AuthorityValues {
         basic_constraints: payload(alloc, extensions)?,
-        any_basic_constraints: payload(alloc, extensions)?,
         key_usage: payload(alloc, extensions)?,
     })
 }
@@ -117,7 +113,7 @@ pub(crate) fn alternative_values(
 pub(crate) struct PolicyValues {
     pub(crate) certificate_policies: Option<CertificatePolicies>,
     pub(crate) policy_mappings: Option<PolicyMappings>,
-    pub(crate) policy_constraints: Option<PolicyConstraints>,
+    pub(crate) policy_constraints: Option<AnyPolicyConstraints>,
 
     /// No policy is there twice.
     pub(crate) are_policies_distinct: bool,

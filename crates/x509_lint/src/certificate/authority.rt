@@ -5,6 +5,8 @@ ghost use Rattle.x509_prim.specs.Integer.{without_zeros};
 ghost use Rattle.x509_lint.specs.Authority as grammar;
 ghost use Rattle.x509_lint.specs.Words.{passes};
 
+use crate::basic_constraints::AnyBasicConstraints;
+use crate::certificate::field::is_v3;
 use crate::extensions::{has, has_uncritical};
 use crate::group::Group;
 use crate::names::is_empty_name;
@@ -14,15 +16,15 @@ use crate::values::AuthorityValues;
 use bitflags::Flags;
 use x509_base::Raw;
 use x509_cert::certificate::CertificateInner;
-use x509_ext::pkix::{BasicConstraints, KeyUsage, NameConstraints, SubjectKeyIdentifier};
+use x509_ext::pkix::{KeyUsage, NameConstraints, SubjectKeyIdentifier};
 use x509_ext::{Extension, members};
 use x509_prim::Uint;
 
 /// Whether there are no basic constraints, or those that there are are read and don't set cA.
-fn is_no_ca(extensions: &[Extension], constraints: &Option<BasicConstraints>) -> bool
+fn is_no_ca(extensions: &[Extension], constraints: &Option<AnyBasicConstraints>) -> bool
     ensures { result ≡ grammar.is_no_ca extensions.now constraints.now }
 {
-    !has::<BasicConstraints>(extensions) || passes!(constraints, constraints => !constraints.ca)
+    !has::<AnyBasicConstraints>(extensions) || passes!(constraints, constraints => !constraints.ca)
 }
 
 fn is_long_path(path_len: &Option<Uint>) -> bool
@@ -51,7 +53,9 @@ impl Group<CertificateInner<Raw>, AuthorityValues> for AuthorityRule {
                     && is_empty_name(certificate.tbs_certificate().subject()),
             AuthorityRule::CaWithoutSubjectKeyIdentifier => is_ca
                 && !has::<SubjectKeyIdentifier>(extensions),
-            AuthorityRule::SubjectKeyIdentifierAbsent => is_no_ca
+            AuthorityRule::SubjectKeyIdentifierAbsent => is_v3(
+                certificate.tbs_certificate().version(),
+            ) && is_no_ca
                 && !has::<SubjectKeyIdentifier>(extensions),
             AuthorityRule::CaWithoutKeyUsage => is_ca && !has::<KeyUsage>(extensions),
             AuthorityRule::KeyUsageEmpty =>
@@ -61,11 +65,11 @@ impl Group<CertificateInner<Raw>, AuthorityValues> for AuthorityRule {
             AuthorityRule::KeyCertSignWithoutCa => is_no_ca
                 && passes!(&values.key_usage, usage => usage.key_cert_sign()),
             AuthorityRule::CaBasicConstraintsNotCritical => is_ca
-                && has_uncritical::<BasicConstraints>(extensions),
+                && has_uncritical::<AnyBasicConstraints>(extensions),
             AuthorityRule::PathLenWithoutCa => !is_ca
                 && passes!(&values.basic_constraints, constraints => constraints.path_len_constraint.is_some()),
             AuthorityRule::PathLenNotJudged =>
-                passes!(&values.any_basic_constraints, constraints => is_long_path(&constraints.path_len_constraint)),
+                passes!(&values.basic_constraints, constraints => is_long_path(&constraints.path_len_constraint)),
             AuthorityRule::NameConstraintsInLeaf => is_no_ca && has::<NameConstraints>(extensions),
         }
     }

@@ -22,7 +22,7 @@ fn is_v1(version: Version) -> bool
     }
 }
 
-fn is_v3(version: Version) -> bool
+pub(crate) fn is_v3(version: Version) -> bool
     ensures { result ≡ grammar.is_v3 version }
 {
     match version {

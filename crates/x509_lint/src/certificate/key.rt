@@ -5,6 +5,7 @@ ghost use Rattle.std.specs.Prelude.{◌≡◌, ◌&&◌, bytes_eq, is_some, not}
 ghost use Rattle.x509_lint.specs.Key as grammar;
 ghost use Rattle.x509_lint.specs.Words.{is_empty, passes};
 
+use crate::certificate::field::is_v3;
 use crate::extensions::{has, has_critical, is_empty_sequence};
 use crate::group::Group;
 use crate::passes;
@@ -69,7 +70,8 @@ impl Group<CertificateInner<Raw>, KeyValues> for KeyRule {
     fn is_broken(&self, certificate: &CertificateInner<Raw>, values: &KeyValues) -> bool {
         let extensions = members(certificate.tbs_certificate().extensions());
         match self {
-            KeyRule::AuthorityKeyIdentifierAbsent => !has::<AuthorityKeyIdentifier>(extensions)
+            KeyRule::AuthorityKeyIdentifierAbsent => is_v3(certificate.tbs_certificate().version())
+                && !has::<AuthorityKeyIdentifier>(extensions)
                 && !is_self_issued(certificate),
             KeyRule::AuthorityKeyIdentifierWithoutKey =>
                 passes!(&values.authority_key_identifier, identifier => !identifier.key_identifier.is_some()),

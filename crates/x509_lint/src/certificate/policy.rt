@@ -10,12 +10,13 @@ use crate::group::Group;
 use crate::notices::USER_NOTICE;
 use crate::passes;
 use crate::rule::{PolicyRule, Rule};
+use crate::skip_certs::AnyPolicyConstraints;
 use crate::values::PolicyValues;
 use x509_base::Raw;
 use x509_cert::certificate::CertificateInner;
 use x509_der::{ObjectIdentifier, oid};
 use x509_ext::pkix::certpolicy::{PolicyInformation, PolicyQualifierInfo};
-use x509_ext::pkix::{CertificatePolicies, PolicyConstraints, PolicyMapping};
+use x509_ext::pkix::{CertificatePolicies, PolicyMapping};
 
 /// anyPolicy, 2.5.29.32.0 (RFC 5280 4.2.1.4).
 const ANY_POLICY: ObjectIdentifier = oid!(0x55, 0x1D, 32, 0);
@@ -43,7 +44,7 @@ fn has_empty_qualifiers(policies: &[PolicyInformation]) -> bool
         .any(|policy| is_empty_sequence(&policy.policy_qualifiers))
 }
 
-fn has_no_number(constraints: &Option<PolicyConstraints>) -> bool
+fn has_no_number(constraints: &Option<AnyPolicyConstraints>) -> bool
     ensures { result ≡ passes (λ p. not (is_some p.require_explicit_policy) && not (is_some p.inhibit_policy_mapping)) constraints.now }
 {
     match constraints {
@@ -111,8 +112,8 @@ impl Group<CertificateInner<Raw>, PolicyValues> for PolicyRule {
                 passes!(&values.certificate_policies, policies => has_other_qualifier(policies.0.as_slice())),
             PolicyRule::ExplicitTextTooLong => values.has_long_text,
             PolicyRule::ExplicitTextEmpty => values.has_empty_text,
-            PolicyRule::ExplicitTextType => values.has_old_text,
-            PolicyRule::ExplicitTextNotUtf8String => values.has_ia5_text,
+            PolicyRule::ExplicitTextType => values.has_ia5_text,
+            PolicyRule::ExplicitTextNotUtf8String => values.has_old_text,
             PolicyRule::ExplicitTextControl => values.has_control,
             PolicyRule::NoticeReferencePresent => values.has_reference,
             PolicyRule::ExplicitTextNotNormalized => values.has_unnormalized,

@@ -80,7 +80,8 @@ pub enum AnchorRule {
     /// Name constraints are among the extensions (RFC 5914 2.6, error).
     NameConstraintsInExts,
 
-    /// The octets of an extension of the type aren't an encoding of this library's type for its OID (RFC 5280 4.2, error).
+    /// The octets of an extension of the type aren't an encoding of the type that RFC 5280 has for its OID, nor have
+    /// what this library's decoder doesn't hold (RFC 5280 4.2, error).
     ExtensionMalformed(ExtensionKind),
 }
 

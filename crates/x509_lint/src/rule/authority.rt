@@ -18,7 +18,7 @@ pub enum AuthorityRule {
     /// cA is set, and there is no SKI (RFC 5280 4.2.1.2, error).
     CaWithoutSubjectKeyIdentifier,
 
-    /// cA isn't set, and there is no SKI (RFC 5280 4.2.1.2, warning).
+    /// The version is 3, cA isn't set, and there is no SKI (RFC 5280 4.2.1.2, warning).
     SubjectKeyIdentifierAbsent,
 
     /// cA is set, and there is no KeyUsage (RFC 5280 4.2.1.3, error).
@@ -39,7 +39,7 @@ pub enum AuthorityRule {
     /// There is a path length constraint, and cA isn't set (RFC 5280 4.2.1.9, error).
     PathLenWithoutCa,
 
-    /// The path length is above 255, which this library doesn't read: no rule on the BasicConstraints is judged (RFC 5280 4.2.1.9, not judged).
+    /// The path length is above 255, which this library's decoder doesn't read; the rules here are judged all the same (RFC 5280 4.2.1.9, not judged).
     PathLenNotJudged,
 
     /// There is a NameConstraints, and cA isn't set (RFC 5280 4.2.1.10, error).

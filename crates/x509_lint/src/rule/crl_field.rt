@@ -133,7 +133,8 @@ pub enum CrlFieldRule {
     /// Two extensions have one OID (RFC 5280 5.2, error).
     ExtensionRepeated,
 
-    /// The octets of an extension aren't an encoding of this library's type for its OID (RFC 5280 5.2, error).
+    /// The octets of an extension aren't an encoding of the type that RFC 5280 has for its OID, nor have what this library's decoder
+    /// doesn't hold (RFC 5280 5.2, error).
     ExtensionMalformed(CrlExtensionKind),
 
     /// The list of an entry's extensions is there, and has none (RFC 5280 5.3, error).

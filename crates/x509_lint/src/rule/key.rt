@@ -9,7 +9,7 @@ use crate::told;
 /// Rules on key identifiers, extended key usage and the private key usage period (RFC 5280 4.2.1.1, 4.2.1.12, A.2).
 #[derive(Clone, Copy, Debug, PartialEq, Eq)]
 pub enum KeyRule {
-    /// There is no AKI, and the issuer isn't the subject (RFC 5280 4.2.1.1, error).
+    /// The version is 3, there is no AKI, and the issuer isn't the subject (RFC 5280 4.2.1.1, error).
     AuthorityKeyIdentifierAbsent,
 
     /// The AKI has no keyIdentifier (RFC 5280 4.2.1.1, error).

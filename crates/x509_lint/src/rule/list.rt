@@ -175,8 +175,9 @@ pub enum ListRule {
     /// Two extensions have one OID (RFC 5280 4.2, error).
     ExtensionRepeated,
 
-    /// The octets of an extension of the type aren't an encoding of this library's type for its OID (RFC 5280 4.2, error). RFC 5280 allows two that
-    /// it refuses: an X.400 address, and an OID of more than 39 octets. A path length above 255 isn't one: `path_len_above_255` tells it.
+    /// The octets of an extension of the type aren't an encoding of the type that RFC 5280 has for its OID (RFC 5280 4.2, error). That isn't told of
+    /// octets that have what RFC 5280 allows and this library's decoder doesn't hold: an x400Address, and an OID of more than 39 octets or with a
+    /// number of 2^32 or more.
     ExtensionMalformed(ExtensionKind),
 }
 

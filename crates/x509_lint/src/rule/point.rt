@@ -33,7 +33,7 @@ pub enum PointRule {
     /// The cRLIssuer of a point of the CRLDistributionPoints is the issuer of the certificate (RFC 5280 4.2.1.13, error).
     DistributionPointOwnIssuer,
 
-    /// Each point of the CRLDistributionPoints has reasons, so that none covers all (RFC 5280 4.2.1.13, error).
+    /// Each point of the CRLDistributionPoints has reasons, and not all, so that none covers all (RFC 5280 4.2.1.13, error).
     DistributionPointsPartial,
 
     /// An LDAP URI of a point of the CRLDistributionPoints has no dn, or not one attribute description (RFC 5280 4.2.1.13, error).
@@ -63,7 +63,7 @@ pub enum PointRule {
     /// The cRLIssuer of a point of the FreshestCRL is the issuer of the certificate (RFC 5280 4.2.1.15, error).
     FreshestCrlPointOwnIssuer,
 
-    /// Each point of the FreshestCRL has reasons, so that none covers all (RFC 5280 4.2.1.15, error).
+    /// Each point of the FreshestCRL has reasons, and not all, so that none covers all (RFC 5280 4.2.1.15, error).
     FreshestCrlPointsPartial,
 
     /// An LDAP URI of a point of the FreshestCRL has no dn, or not one attribute description (RFC 5280 4.2.1.15, error).

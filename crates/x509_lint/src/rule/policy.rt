@@ -3,7 +3,7 @@
 ghost use Rattle.x509_lint.specs.Policy.{policy_wording};
 ghost use Rattle.x509_lint.specs.Wording.{Says};
 
-use crate::entry::{Entry, must, should};
+use crate::entry::{Entry, must, must_of, should, should_of};
 use crate::told;
 
 /// Rules on certificate policies, policy mappings and policy constraints (RFC 5280 4.2.1.4, 4.2.1.5, 4.2.1.11).
@@ -27,10 +27,10 @@ pub enum PolicyRule {
     /// The explicit text of a user notice has no characters (RFC 5280 4.2.1.4, error).
     ExplicitTextEmpty,
 
-    /// The explicit text of a user notice is a VisibleString or a BMPString (RFC 5280 4.2.1.4, error).
+    /// The explicit text of a user notice is an IA5String (RFC 6818 3, error).
     ExplicitTextType,
 
-    /// The explicit text of a user notice is an IA5String (RFC 5280 4.2.1.4, warning).
+    /// The explicit text of a user notice is a VisibleString or a BMPString (RFC 6818 3, warning).
     ExplicitTextNotUtf8String,
 
     /// The explicit text of a user notice has a control character, U+0000 to U+001F or U+007F to U+009F (RFC 5280 4.2.1.4, warning).
@@ -85,8 +85,8 @@ impl PolicyRule {
             AnyPolicyQualifierInvalid => must("any_policy_qualifier_invalid", "4.2.1.4", "tbsCertificate.extensions.certificatePolicies"),
             ExplicitTextTooLong => must("explicit_text_too_long", "4.2.1.4", "tbsCertificate.extensions.certificatePolicies"),
             ExplicitTextEmpty => must("explicit_text_empty", "4.2.1.4", "tbsCertificate.extensions.certificatePolicies"),
-            ExplicitTextType => must("explicit_text_type", "4.2.1.4", "tbsCertificate.extensions.certificatePolicies"),
-            ExplicitTextNotUtf8String => should("explicit_text_not_utf8_string", "4.2.1.4", "tbsCertificate.extensions.certificatePolicies"),
+            ExplicitTextType => must_of("RFC 6818", "explicit_text_type", "3", "tbsCertificate.extensions.certificatePolicies"),
+            ExplicitTextNotUtf8String => should_of("RFC 6818", "explicit_text_not_utf8_string", "3", "tbsCertificate.extensions.certificatePolicies"),
             ExplicitTextControl => should("explicit_text_control", "4.2.1.4", "tbsCertificate.extensions.certificatePolicies"),
             NoticeReferencePresent => should("notice_reference_present", "4.2.1.4", "tbsCertificate.extensions.certificatePolicies"),
             ExplicitTextNotNormalized => should("explicit_text_not_normalized", "4.2.1.4", "tbsCertificate.extensions.certificatePolicies"),

@@ -63,7 +63,8 @@ pub enum RequestRule {
     /// Two extensions that are asked for have one OID (RFC 5280 4.2, error).
     ExtensionRepeated,
 
-    /// The octets of an extension of the type that is asked for aren't an encoding of this library's type for its OID (RFC 5280 4.2, error).
+    /// The octets of an extension of the type that is asked for aren't an encoding of the type that RFC 5280 has for its OID, nor have
+    /// what this library's decoder doesn't hold (RFC 5280 4.2, error).
     ExtensionMalformed(ExtensionKind),
 
     /// The SAN that is asked for has no name (RFC 5280 4.2.1.6, error).
