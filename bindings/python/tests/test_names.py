@@ -167,11 +167,11 @@ def encoded(*rdns: list[tuple[bytes, int, bytes]]) -> ours.Name:
 
 
 class Matching(unittest.TestCase):
-    """Names that match by RFC 5280 7.1, 7.3, 7.5 and RFC 4518 2, by hand."""
+    """Names that match by RFC 5280 4.1.2.6, 7.1, 7.3 and RFC 4518 2, by hand."""
 
     CN, C, O = (bytes.fromhex(it) for it in ("550403", "550406", "55040a"))
     EMAIL, DC = bytes.fromhex("2a864886f70d010901"), bytes.fromhex("0992268993f22c640119")
-    UTF8, PRINTABLE, T61, IA5, BMP = 0x0C, 0x13, 0x14, 0x16, 0x1E
+    UTF8, PRINTABLE, T61, IA5, UNIVERSAL, BMP = 0x0C, 0x13, 0x14, 0x16, 0x1C, 0x1E
 
     def matches(self, a: ours.Name, b: ours.Name) -> bool:
         found = a.matches(b)
@@ -186,8 +186,12 @@ class Matching(unittest.TestCase):
             # case, and the type of the string
             ((self.UTF8, "a"), (self.PRINTABLE, "A"), True),
             ((self.BMP, "\0a"), (self.IA5, "A"), True),
-            ((self.T61, "a"), (self.T61, "A"), False),
-            ((self.T61, "a"), (self.UTF8, "a"), False),
+            ((self.T61, "a"), (self.T61, "A"), True),
+            ((self.T61, "a"), (self.UTF8, "a"), True),
+            # beyond ASCII, T.61 or Latin-1, so octets are compared
+            ((self.T61, "\u00e4"), (self.UTF8, "\u00e4"), False),
+            ((self.UNIVERSAL, "\0\0\0A"), (self.UTF8, "a"), True),
+            ((self.UNIVERSAL, "\0\0\0A"), (self.UTF8, "b"), False),
             # spaces, and what is mapped to one or to nothing
             ((self.UTF8, " a  b"), (self.UTF8, "A b "), True),
             ((self.UTF8, "a b"), (self.UTF8, "ab"), False),
@@ -213,7 +217,8 @@ class Matching(unittest.TestCase):
     def test_mailboxes_and_domains(self) -> None:
         rows = [
             (self.EMAIL, b"a@b.c", b"a@B.C", True),
-            (self.EMAIL, b"a@b.c", b"A@b.c", False),
+            (self.EMAIL, b"a@b.c", b"A@b.c", True),
+            (self.EMAIL, b"a@b.c", b"a@b.d", False),
             (self.DC, b"a b", b"A B", True),
             (self.DC, b"a b", b"a  b", False),
         ]

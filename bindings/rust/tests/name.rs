@@ -119,11 +119,12 @@ const C: &[u8] = b"\x55\x04\x06";
 const O: &[u8] = b"\x55\x04\x0a";
 const EMAIL: &[u8] = b"\x2a\x86\x48\x86\xf7\x0d\x01\x09\x01";
 const DC: &[u8] = b"\x09\x92\x26\x89\x93\xf2\x2c\x64\x01\x19";
-// PrintableString, UTF8String, T61String, IA5String, BMPString
+// PrintableString, UTF8String, T61String, IA5String, UniversalString, BMPString
 const PRINTABLE: u8 = 0x13;
 const UTF8: u8 = 0x0c;
 const T61: u8 = 0x14;
 const IA5: u8 = 0x16;
+const UNIVERSAL: u8 = 0x1c;
 const BMP: u8 = 0x1e;
 
 fn match_both_ways(a: &Name, b: &Name) -> bool {
@@ -144,8 +145,13 @@ fn matching_values() {
         // case, and the type of the string
         (CN, (UTF8, b"a"), (PRINTABLE, b"A"), true),
         (CN, (BMP, b"\0a"), (IA5, b"A"), true),
-        (CN, (T61, b"a"), (T61, b"A"), false),
-        (CN, (T61, b"a"), (UTF8, b"a"), false),
+        (CN, (T61, b"a"), (T61, b"A"), true),
+        (CN, (T61, b"a"), (UTF8, b"a"), true),
+        // T.61 or Latin-1, so octets are compared
+        (CN, (T61, b"\xe4"), (T61, b"\xc4"), false),
+        (CN, (T61, b"\xe4"), (UTF8, "ä".as_bytes()), false),
+        (CN, (UNIVERSAL, b"\0\0\0A"), (UTF8, b"a"), true),
+        (CN, (UNIVERSAL, b"\0\0\0A"), (UTF8, b"b"), false),
         // spaces, and what is mapped to one or to nothing
         (CN, (UTF8, b" a  b"), (UTF8, b"A b "), true),
         (CN, (UTF8, b"a b"), (UTF8, b"ab"), false),
@@ -183,9 +189,10 @@ fn matching_values() {
             (UTF8, "A\u{fffd}".as_bytes()),
             false,
         ),
-        // RFC 5280 7.5, 7.3
+        // RFC 5280 4.1.2.6, 7.3
         (EMAIL, (IA5, b"a@b.c"), (IA5, b"a@B.C"), true),
-        (EMAIL, (IA5, b"a@b.c"), (IA5, b"A@b.c"), false),
+        (EMAIL, (IA5, b"a@b.c"), (IA5, b"A@b.c"), true),
+        (EMAIL, (IA5, b"a@b.c"), (IA5, b"a@b.d"), false),
         (DC, (IA5, b"a b"), (IA5, b"A B"), true),
         (DC, (IA5, b"a b"), (IA5, b"a  b"), false),
     ];
