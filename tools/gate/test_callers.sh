@@ -136,7 +136,7 @@ revoked() {
     local server=("$made/server.der" "$made/intermediate.der")
     wants "$name, an unrevoked server" 0 "$folder/unrevoked.txt" "$@" 1893456000 "${server[@]}" "$made/before.der"
     wants "$name, a revoked server" 1 "$folder/revoked.txt" "$@" 1893456000 "${server[@]}" "$made/after.der" "$made/before.der"
-    wants "$name, the latest CRL behind an earlier one" 0 "$folder/unrevoked.txt" "$@" 1893456000 "${server[@]}" "$made/before.der" "$made/after.der"
+    wants "$name, the latest CRL behind an earlier one" 1 "$folder/revoked_behind.txt" "$@" 1893456000 "${server[@]}" "$made/before.der" "$made/after.der"
     wants "$name, a server and no CRL" 1 "$folder/undetermined.txt" "$@" 1893456000 "${server[@]}"
     wants "$name, another signer" 1 "$folder/undetermined.txt" "$@" 1893456000 "$made/server.der" "$made/root.der" "$made/before.der"
     wants "$name, a signer that may not sign CRLs" 1 "$folder/undetermined.txt" "$@" 1769904000 "$data/certificate.der" "$data/certificate.der" "$data/list.der"
@@ -150,6 +150,8 @@ echo undetermined >"$folder/undetermined.txt"
 echo 'refused 2' >"$folder/no_status.txt"
 # keyCompromise, at the first second of the authority's certificates
 echo 'revoked 0 1 1767225600' >"$folder/revoked.txt"
+# the same by the second of two CRLs, which is the newer one (RFC 5280 5.2.3)
+echo 'revoked 1 1 1767225600' >"$folder/revoked_behind.txt"
 echo 'all calls answer as they should' >"$folder/calls.txt"
 # RFC 4514 2.4, by hand, and twice: as the library prints the name, and as its values are escaped
 printf '%s\n%s\n' 'CN=a\,O=Evil,O=Haus\, Hof \+ Söhne,C=US' 'CN=a\,O=Evil,O=Haus\, Hof \+ Söhne,C=US' >"$folder/name.txt"
