@@ -1,5 +1,5 @@
 use Rattle.x509_validation.proofs.OneValidation.{faulty, valid}
-use Rattle.x509_path.proofs.laws.one_validation.Goals as goal
+use Rattle.x509_validation.proofs.laws.one_validation.Goals as goal
 
 pub returns-clause-valid : goal.returns-clause-valid
 returns-clause-valid c = valid
