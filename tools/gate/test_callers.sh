@@ -436,5 +436,4 @@ if has python3 "the caller in Python, and wide and deep values"; then
     wants "C, each allocation refused of wide and deep values" 0 "$folder/calls.txt" "$folder/refuse_memory" "${files[@]}" "$folder/rows" "$folder/answers"
 fi
 "$top/tools/gate/test_install.sh" || failed=1
-! has python3 "packages, installed into a bare root directory" || python3 -B "$gate/test_release.py" --over "$folder" || failed=1
 exit "$failed"
