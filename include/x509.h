@@ -665,11 +665,13 @@ x509_status x509_path_check(const uint8_t *anchor, size_t anchor_len, const uint
 /* Further reasons, of x509_path_validate and the two calls like it alone. */
 
 /* An extension can't be decoded that is one of those of X509_PATH_CRITICAL, a NameConstraints, a CertificatePolicies, a PolicyMappings, a PolicyConstraints or
- * an InhibitAnyPolicy, critical or not. */
+ * an InhibitAnyPolicy, critical or not. It comes in front of X509_PATH_CRITICAL, which is told here of a critical extension that is none of these, and of a
+ * critical ExtendedKeyUsage where no purpose is asked for. */
 #define X509_PATH_EXTENSION 11
-/* A name isn't within what the name constraints above permit, or is within what they exclude. Asked of the last, and of those that aren't self-issued. */
+/* A name isn't within what the name constraints above permit, or is within what they exclude, or they have a subtree of its form with a minimum other than 0,
+ * a maximum, or a base that is none. Asked of the last, and of those that aren't self-issued. */
 #define X509_PATH_NAMES 12
-/* Asked of all but the last: there is a NameConstraints that can't be used, with a minimum other than 0, a maximum, or an address or a mask that is none. */
+/* Asked of all but the last: there is a NameConstraints that can't be used: a list of its subtrees is there and empty. */
 #define X509_PATH_CONSTRAINTS 13
 /* A policy is in a CertificatePolicies twice. */
 #define X509_PATH_REPEATED_POLICY 14
@@ -677,25 +679,48 @@ x509_status x509_path_check(const uint8_t *anchor, size_t anchor_len, const uint
 #define X509_PATH_POLICY 15
 /* Asked of all but the last: a PolicyMappings maps any-policy, or something to it. */
 #define X509_PATH_POLICY_MAPPING 16
+/* Each purpose that is asked for is one that this certificate doesn't allow, or one above: an ExtendedKeyUsage is there, and has neither it nor
+ * anyExtendedKeyUsage (RFC 5280 4.2.1.12). Asked of the last, and where purposes are chained of all. */
+#define X509_PATH_PURPOSE 17
+/* Asked of the last: there is a KeyUsage without all bits that are asked for (4.2.1.3). */
+#define X509_PATH_USAGE 18
+/* There are extensions, and the version isn't 3 (4.1.2.9). X509_PATH_NOT_CA is told here also of an authority of version 1 or 2 (6.1.4 (k)). */
+#define X509_PATH_VERSION 19
 
-/* What may be asked of policies, added up. A policy is asked for (RFC 5280 6.1.1 (f)). */
+/* What may be asked of a path, added up. A policy is asked for (RFC 5280 6.1.1 (f)). */
 #define X509_PATH_EXPLICIT_POLICY 1
 /* Policies may not be mapped (6.1.1 (e)). */
 #define X509_PATH_INHIBIT_POLICY_MAPPING 2
 /* Any-policy in a certificate counts for nothing (6.1.1 (g)). */
 #define X509_PATH_INHIBIT_ANY_POLICY 4
+/* Purposes are asked of the last certificate alone; else one purpose has to be allowed by all certificates of the path. */
+#define X509_PATH_UNCHAINED 8
+/* Certificates of version 1, which have no extensions, are authorities (6.1.4 (k)), which the caller then knows of those given. */
+#define X509_PATH_VERSION_1_AUTHORITIES 16
+
+/* The purposes of RFC 5280 (4.2.1.12). */
+#define X509_PURPOSE_SERVER_AUTH 1
+#define X509_PURPOSE_CLIENT_AUTH 2
+#define X509_PURPOSE_CODE_SIGNING 4
+#define X509_PURPOSE_EMAIL_PROTECTION 8
+#define X509_PURPOSE_TIME_STAMPING 16
+#define X509_PURPOSE_OCSP_SIGNING 32
 
 /* What is asked of a path. A caller hands over its size too, so that later versions of this library can ask for more: what stands behind what the library knows
  * has to be zeros, which ask for nothing, or the answer is X509_VALUE. So set all of it to zeros first. */
 typedef struct {
-    uint64_t moment; /* the time at which the path is to be valid */
-    uint64_t flags;  /* X509_PATH_EXPLICIT_POLICY and the others; any other number is X509_VALUE */
+    uint64_t moment;      /* the time at which the path is to be valid */
+    uint64_t flags;       /* X509_PATH_EXPLICIT_POLICY and the others; any other number is X509_VALUE */
+    uint64_t key_usage;   /* what the last certificate's KeyUsage has to have, if there is one: the named bit n as 1 << n, as of x509_key_usage */
+    uint64_t purposes;    /* X509_PURPOSE_SERVER_AUTH and the others, added up: one of them is asked for, any; 0 and no own one: none is */
+    uint64_t purpose_len; /* how many bytes a purpose of the caller's own has, which is asked for as those are; 0 where there is none */
+    uint8_t purpose[64];  /* the content octets of its OID; what follows them isn't looked at */
 } x509_path_settings;
 
 /* What is answered to a path: its first fault, or what it gives. Of the other all numbers are 0. */
 typedef struct {
     size_t place;        /* the index of the certificate in the path, from 0 */
-    uint32_t reason;     /* one of X509_PATH_DECODE to X509_PATH_POLICY_MAPPING */
+    uint32_t reason;     /* one of X509_PATH_DECODE to X509_PATH_VERSION */
     x509_span name;      /* a whole Name, in the bytes of the last certificate, which begin at 0 */
     x509_span key;       /* a whole SubjectPublicKeyInfo, in the bytes of the last certificate */
     size_t policies_len; /* how many bytes the policies have, whether they fit into the buffer or not */
@@ -704,18 +729,24 @@ typedef struct {
 /* Validates a path of `count` certificates, topmost first, under an anchor's certificate (RFC 5280 6.1, RFC 5937): its subject, its public key, its name
  * constraints, its path length constraint, the policies of its CertificatePolicies, which are merged with those of the caller, and the flags about policies
  * that its PolicyConstraints and its InhibitAnyPolicy set, whatever the numbers in them. Nothing else of it is checked. BUT NOT THE SIGNATURES, which the
- * caller verifies as x509_path_check says; without that X509_OK gives no security. Revocation isn't checked.
+ * caller verifies as x509_path_check says; without that X509_OK gives no security.
  *
  * It is x509_path_check with these differences: issuers and subjects are compared as x509_names_match does, also where it is asked whether a certificate is
  * self-issued; name constraints hold, those of the anchor, those of `name_constraints`, which are the initial permitted and excluded subtrees (6.1.1 (h), (i))
  * as the encoding of a NameConstraints, or none where there are no bytes, and those of each certificate above; policies are followed, where `policies` are
  * those that the caller accepts (6.1.1 (c)) as the encoding of a CertificatePolicies, whose qualifiers aren't looked at, or any where there are no bytes;
- * critical extensions of the types that X509_PATH_EXTENSION names are no fault, and each of them has to be such that can be decoded. Of several faults of one
- * certificate the one with the lowest number is reported, but X509_PATH_EXTENSION comes behind X509_PATH_CRITICAL.
+ * critical extensions of the types that X509_PATH_EXTENSION names are no fault, and each of them has to be such that can be decoded; what `settings` ask of
+ * purposes and key usage holds; and only version 3 has extensions and is an authority by them. Of several faults of one certificate the one with the lowest
+ * number is reported, but X509_PATH_VERSION comes behind X509_PATH_SIGNATURE, X509_PATH_EXTENSION behind X509_PATH_REPEATED, and X509_PATH_USAGE and then
+ * X509_PATH_PURPOSE behind X509_PATH_PATH_LEN.
+ *
+ * Not asked is whether the last certificate is that of a host, a mailbox or another peer: the caller compares its names. Nor is any certificate asked for its
+ * revocation: x509_revocation_status is for that.
  *
  * The certificates stand one after the other in path[0..path_len), and lens[i] is the length of the i-th. `settings_size` is the size of `*settings`.
  *
- * X509_FAILED where the lengths don't add up to `path_len`, or where the anchor has one of the extensions that are followed more than once; X509_VALUE where
+ * X509_FAILED where the lengths don't add up to `path_len`, or where the anchor's subject is empty (RFC 5937 3.2) or it has one of the extensions that are
+ * followed more than once; X509_VALUE where
  * there are no settings, as said there, or `moment` is after 9999-12-31T23:59:59Z; X509_OVERLENGTH or X509_MALFORMED where decoding the anchor's certificate,
  * one of its extensions, the name constraints or the policies answers that; where several of these are bad, any of their answers may come. Else X509_ABSENT
  * where `count` is 0. Else X509_VALUE where the name constraints of the anchor or of the caller can't be used, as X509_PATH_CONSTRAINTS says. Else X509_FAULT
@@ -739,7 +770,9 @@ x509_status x509_path_validate_under_key(const uint8_t *name, size_t name_len, c
 /* The same under a trust anchor (RFC 5914, RFC 5937 2), the encoding of a TrustAnchorChoice, as x509_anchor_view reads: of a certificate or a TBSCertificate as
  * x509_path_validate says; of a description its key, and the name, the name constraints, the path length constraint, the policies and the flags about them of
  * its constraints on paths; where one of the last four isn't there, that of the certificate there, if it has one, whose subject, key and key identifier have to
- * be the description's (RFC 5914 2.5). X509_FAILED also where a description has no name, or a certificate of another anchor.
+ * be the description's (RFC 5914 2.5). X509_FAILED also where a description has no name, or an empty one, or a certificate of another anchor, or an extension
+ * of its own that is critical, or one of the types that are followed in a certificate (BasicConstraints, NameConstraints, CertificatePolicies,
+ * PolicyConstraints, InhibitAnyPolicy): these aren't followed there.
  * Answers X509_OK, X509_MEMORY, X509_OVERLENGTH, X509_MALFORMED, X509_FAILED, X509_VALUE, X509_ABSENT, X509_FAULT. */
 x509_status x509_path_validate_under_anchor(const uint8_t *anchor, size_t anchor_len, const uint8_t *path, size_t path_len, const size_t *lens, size_t count,
                                             const uint8_t *name_constraints, size_t name_constraints_len, const uint8_t *policies, size_t policies_len,
@@ -961,6 +994,16 @@ typedef struct {
  * Answers X509_OK, X509_MEMORY, X509_OVERLENGTH, X509_MALFORMED. */
 x509_status x509_key_view(const uint8_t *in, size_t len, x509_key *view);
 
+/* Writes a SubjectPublicKeyInfo as it is used under the key above it (RFC 5280 6.1.4 (d) to (f)), another one, into out[0..room), and says how long it is in
+ * `*written`: where the parameters of its algorithm are left out or NULL, and the key above is of the same algorithm and has parameters, the key with these;
+ * else the key as it is. Who verifies the signatures of a path that x509_path_validate judges verifies the first under the anchor's key, and each other one
+ * under the key of the certificate above it, as that is used under the key further up: the first such key above is the anchor's, and each further one is what
+ * this call wrote.
+ *
+ * X509_ROOM where it doesn't fit, and `*written` is how long it is. X509_OVERLENGTH also where it would be more than 268,435,455 bytes.
+ * Answers X509_OK, X509_MEMORY, X509_ROOM, X509_OVERLENGTH, X509_MALFORMED. */
+x509_status x509_working_key(const uint8_t *above, size_t above_len, const uint8_t *key, size_t key_len, uint8_t *out, size_t room, size_t *written);
+
 /* The numbers are the content octets of their INTEGERs: the most significant octet first, behind a 00 where the first bit would be 1. */
 typedef struct {
     x509_span modulus;
@@ -1137,6 +1180,51 @@ typedef struct {
  * isn't one of version 1, with known algorithms and nothing behind it.
  * Answers X509_OK, X509_MEMORY, X509_MALFORMED. */
 x509_status x509_timestamp_view(const uint8_t *in, size_t len, x509_timestamp *view);
+
+/* Writes what the signature of a timestamp within a certificate is over (RFC 6962 3.2, precert_entry): of a serialized timestamp, as x509_timestamp_next finds
+ * it in the certificate, whose issuer has the second certificate. The caller verifies it with the log's key, by the algorithms and the signature that
+ * x509_timestamp_view tells. Whether the issuer issued the certificate, and whether the certificate has that timestamp, isn't looked at. X509_ABSENT where the
+ * certificate has no list of timestamps, X509_REPEATED where it has two or more; nothing is written then. X509_MALFORMED where the timestamp is none as
+ * x509_timestamp_view takes it, or one of the others is no certificate under RFC 5280. X509_OVERLENGTH where a certificate is longer than x509_check takes, or
+ * the signed part without timestamps has more than 16,777,215 bytes. Where several are bad, any of these. Rooms are as said under whole values.
+ * Answers X509_OK, X509_ROOM, X509_MEMORY, X509_OVERLENGTH, X509_MALFORMED, X509_ABSENT, X509_REPEATED. */
+x509_status x509_timestamp_signed_data(const uint8_t *timestamp, size_t timestamp_len, const uint8_t *certificate, size_t certificate_len,
+                                       const uint8_t *issuer, size_t issuer_len, uint8_t *out, size_t room, size_t *written);
+
+/* The same of a timestamp that came beside the certificate, in the TLS handshake or in an OCSP response (RFC 6962 3.3, x509_entry): the certificate is taken
+ * as it stands, and not looked at. X509_MALFORMED where the timestamp is none as x509_timestamp_view takes it, X509_OVERLENGTH where the certificate has no
+ * bytes, or more than 16,777,215.
+ * Answers X509_OK, X509_ROOM, X509_MEMORY, X509_OVERLENGTH, X509_MALFORMED. */
+x509_status x509_timestamp_signed_data_beside(const uint8_t *timestamp, size_t timestamp_len, const uint8_t *certificate, size_t certificate_len, uint8_t *out,
+                                              size_t room, size_t *written);
+
+/* Writes the signed part that a log has of a certificate (RFC 6962 3.2): its TBSCertificate without the list of timestamps, all else byte for byte as it
+ * stands, but for the lengths above it; and of a precertificate, which the authority itself signed, its TBSCertificate without the poison
+ * (1.3.6.1.4.1.11129.2.4.3). Where the two agree but for these extensions, they are the same bytes. X509_ABSENT where it hasn't that extension, X509_REPEATED
+ * where it has it twice or more; nothing is written then. X509_MALFORMED where it is no certificate under RFC 5280. Rooms are as said under whole values.
+ * Answers X509_OK, X509_ROOM, X509_MEMORY, X509_OVERLENGTH, X509_MALFORMED, X509_ABSENT, X509_REPEATED. */
+x509_status x509_logged_part(const uint8_t *certificate, size_t certificate_len, uint8_t *out, size_t room, size_t *written);
+x509_status x509_logged_precertificate(const uint8_t *precertificate, size_t precertificate_len, uint8_t *out, size_t room, size_t *written);
+
+/* Proofs of the trees of logs (RFC 6962 2.1), over SHA-256. A hash has 32 bytes; those of a path and of a proof stand one behind the other, as a log gives
+ * them. What is hashed of an entry is its MerkleTreeLeaf (3.4). */
+
+/* Writes the hash of a leaf: of a byte 0 and the entry. Rooms are as said under whole values; it takes no memory.
+ * Answers X509_OK, X509_ROOM. */
+x509_status x509_merkle_leaf_hash(const uint8_t *entry, size_t entry_len, uint8_t *out, size_t room, size_t *written);
+
+/* Verifies an audit path (2.1.1): that the leaf with that hash, at the index from 0 on, is in the tree of `size` leaves with that root. X509_FAILED where the
+ * path doesn't lead there, so also where it has too few or too many hashes or the tree has no such leaf, and where one of these is no hash.
+ * Answers X509_OK, X509_MEMORY, X509_FAILED. */
+x509_status x509_merkle_inclusion(const uint8_t *leaf_hash, size_t leaf_hash_len, uint64_t index, uint64_t size, const uint8_t *path, size_t path_len,
+                                  const uint8_t *root, size_t root_len);
+
+/* Verifies a consistency proof (2.1.2): that the first leaves of the tree of `new_size` leaves with the new root are those of the tree of `old_size` leaves
+ * with the old root. Of two equal sizes the proof is empty, and the roots are one. X509_FAILED where the proof doesn't lead to both, so also where the old
+ * size is 0 or above the new one, and where one of these is no hash.
+ * Answers X509_OK, X509_MEMORY, X509_FAILED. */
+x509_status x509_merkle_consistency(uint64_t old_size, uint64_t new_size, const uint8_t *old_root, size_t old_root_len, const uint8_t *new_root,
+                                    size_t new_root_len, const uint8_t *proof, size_t proof_len);
 
 /* ---- building
  *

@@ -115,6 +115,17 @@ static void certificates(void)
     WANT(x509_reencode((const uint8_t *)"SubjectPublicKeyInfo", 20, X509_RAW, key, 91, room, 91, &written) == X509_OK);
     WANT(x509_reencode((const uint8_t *)"Extensions", 10, X509_RAW, extensions, view.extensions.len, room, sizeof room, &written) == X509_OK);
 
+    /* a key of the algorithm 1.2.3.4 without parameters under one with an INTEGER, and keys that are used as they are (RFC 5280 6.1.4 (d) to (f)) */
+#define WITHOUT BYTES("\x30\x0a\x30\x05\x06\x03\x2a\x03\x04\x03\x01\x00")
+#define WITH "\x30\x0d\x30\x08\x06\x03\x2a\x03\x04\x02\x01\x07\x03\x01\x00"
+    WANT(x509_working_key(BYTES(WITH), WITHOUT, room, 15, &written) == X509_OK && written == 15 && memcmp(room, WITH, 15) == 0);
+    WANT(x509_working_key(BYTES(WITH), WITHOUT, room, 14, &written) == X509_ROOM && written == 15);
+    WANT(x509_working_key(WITHOUT, BYTES(WITH), room, 15, &written) == X509_OK && written == 15 && memcmp(room, WITH, 15) == 0);
+    WANT(x509_working_key(key, 91, WITHOUT, room, 12, &written) == X509_OK && written == 12);
+    WANT(x509_working_key(BYTES(WITH), key, 91, room, sizeof room, &written) == X509_OK && written == 91 && memcmp(room, key, 91) == 0);
+    WANT(x509_working_key(nothing, 0, WITHOUT, room, 12, &written) == X509_MALFORMED && written == 91);
+    WANT(x509_working_key(WITHOUT, key, 90, room, 12, &written) == X509_MALFORMED && written == 91);
+
     x509_extension found = {7, {7, 7}};
     const uint8_t *const key_usage = (const uint8_t *)"\x55\x1d\x0f";
     WANT(x509_certificate_extension(nothing, 0, key_usage, 3, &found) == X509_MALFORMED && found.critical == 7);
@@ -216,10 +227,13 @@ static void paths(void)
     WANT(x509_path_check(certificate, len, path, len, one, 1, 253402300799, &fault) == X509_FAULT && fault.place == 0 && fault.reason == X509_PATH_MOMENT);
 }
 
-/* NameConstraints (RFC 5280 4.2.1.10) by hand: of the names of directories all are permitted, or all are excluded; and a subtree with a minimum of 1. */
+/* NameConstraints (RFC 5280 4.2.1.10) by hand: of the names of directories all are permitted, or all are excluded; subtrees
+ * with a minimum of 1, of such names and of registeredID; and a list that is empty. */
 #define ALL_PERMITTED "\x30\x08\xa0\x06\x30\x04\xa4\x02\x30\x00"
 #define ALL_EXCLUDED "\x30\x08\xa1\x06\x30\x04\xa4\x02\x30\x00"
-#define UNUSABLE "\x30\x0b\xa1\x09\x30\x07\xa4\x02\x30\x00\x80\x01\x01"
+#define FROM_ONE "\x30\x0b\xa1\x09\x30\x07\xa4\x02\x30\x00\x80\x01\x01"
+#define OIDS_FROM_ONE "\x30\x0b\xa1\x09\x30\x07\x88\x02\x2a\x03\x80\x01\x01"
+#define UNUSABLE "\x30\x02\xa1\x00"
 
 /* What is said last to a call that validates: no constraints, any policies, these settings, no room for policies, and where it answers. */
 #define PLAINLY(settings) NULL, 0, NULL, 0, &(settings), sizeof(settings), NULL, 0, &answer
@@ -247,11 +261,14 @@ static int is_untouched(x509_path_answer answer)
 static void settings_of_paths(void)
 {
     /* a caller of a later header, who asks for nothing of what this library doesn't know, and one who does */
-    struct { x509_path_settings known; uint64_t more[4]; } later = {{1767323045, 0}, {0, 0, 0, 0}};
+    struct { x509_path_settings known; uint64_t more[4]; } later = {{.moment = 1767323045}, {0, 0, 0, 0}};
     x509_path_answer answer = UNTOUCHED;
     WANT(validate(NULL, 0, NULL, 0, &answer) == X509_VALUE && is_untouched(answer));
     WANT(validate(&later, 1, NULL, 0, &answer) == X509_VALUE && is_untouched(answer));
-    WANT(validate(&later, sizeof later.known - 1, NULL, 0, &answer) == X509_VALUE && is_untouched(answer));
+    WANT(validate(&later, 15, NULL, 0, &answer) == X509_VALUE && is_untouched(answer));
+    /* one of the first header, whose settings were a moment and flags */
+    WANT(validate(&later, 16, NULL, 0, &answer) == X509_OK);
+    WANT(validate(&later, sizeof later.known, NULL, 0, &answer) == X509_OK);
     WANT(validate(&later, sizeof later, NULL, 0, &answer) == X509_OK);
     WANT(validate(&later, sizeof later - 1, NULL, 0, &answer) == X509_OK);
     answer = UNTOUCHED;
@@ -263,6 +280,21 @@ static void settings_of_paths(void)
     WANT(validate(&later, sizeof later.known, NULL, 0, &answer) == X509_VALUE && is_untouched(answer));
 }
 
+/* What isn't known is refused: another flag, bit or purpose, and a purpose of the caller's own that is too long or isn't there. */
+static void uses_that_are_none(void)
+{
+    static const x509_path_settings none[] = {
+        {.moment = 1767323045, .flags = 32},       {.moment = 1767323045, .key_usage = 512},   {.moment = 1767323045, .purposes = 64},
+        {.moment = 1767323045, .purpose_len = 65}, {.moment = 1767323045, .flags = 1ULL << 63},
+    };
+    x509_path_answer answer = UNTOUCHED;
+    for (size_t at = 0; at < sizeof none / sizeof none[0]; at++)
+        WANT(validate(&none[at], sizeof none[at], NULL, 0, &answer) == X509_VALUE && is_untouched(answer));
+    const x509_path_settings own = {.moment = 1767323045, .purpose_len = 2, .purpose = {0x2a, 0x03}};
+    WANT(validate(&own, 40, NULL, 0, &answer) == X509_VALUE && is_untouched(answer));
+    WANT(validate(&own, 41, NULL, 0, &answer) == X509_VALUE && is_untouched(answer));
+}
+
 /* CertificatePolicies (RFC 5280 4.2.1.4) by hand: any-policy, 1.2.3, and none. */
 #define ANY_POLICY "\x30\x08\x30\x06\x06\x04\x55\x1d\x20\x00"
 #define ONE_POLICY "\x30\x06\x30\x04\x06\x02\x2a\x03"
@@ -271,7 +303,7 @@ static void settings_of_paths(void)
 /* The certificate of the examples has no policies, so its path is valid under none. */
 static void policies_of_paths(void)
 {
-    x509_path_settings asked = {1767323045, 0};
+    x509_path_settings asked = {.moment = 1767323045};
     uint8_t out[8];
     x509_path_answer answer = UNTOUCHED;
     const size_t len = certificate_len;
@@ -282,7 +314,7 @@ static void policies_of_paths(void)
     memset(out, 7, sizeof out);
     WANT(x509_path_validate(certificate, len, certificate, len, &len, 1, NULL, 0, NULL, 0, &asked, sizeof asked, out, 1, &answer) == X509_OK);
     WANT(answer.policies_len == 2 && out[0] == 7);
-    for (asked.flags = 0; asked.flags < 8; asked.flags++) {
+    for (asked.flags = 0; asked.flags < 32; asked.flags++) {
         const int is_asked = (asked.flags & X509_PATH_EXPLICIT_POLICY) != 0;
         answer = UNTOUCHED;
         const x509_status status = validate(&asked, sizeof asked, NULL, 0, &answer);
@@ -302,7 +334,7 @@ static void policies_of_paths(void)
 
 static void validated_paths(void)
 {
-    const x509_path_settings first = {1767323045, 0}, before = {1767323044, 0}, last = {2695968550, 0}, behind = {2695968551, 0};
+    const x509_path_settings first = {.moment = 1767323045}, before = {.moment = 1767323044}, last = {.moment = 2695968550}, behind = {.moment = 2695968551};
     const size_t len = certificate_len, around[] = {len, SIZE_MAX};
     x509_path_answer answer = UNTOUCHED;
     x509_certificate view;
@@ -314,10 +346,13 @@ static void validated_paths(void)
     WANT(is_fault(validate(&before, sizeof before, NULL, 0, &answer), &answer, 0, X509_PATH_MOMENT));
     WANT(is_fault(validate(&behind, sizeof behind, NULL, 0, &answer), &answer, 0, X509_PATH_MOMENT));
     settings_of_paths();
+    uses_that_are_none();
     policies_of_paths();
 
     WANT(validate(&first, sizeof first, BYTES(ALL_PERMITTED), &answer) == X509_OK);
     WANT(is_fault(validate(&first, sizeof first, BYTES(ALL_EXCLUDED), &answer), &answer, 0, X509_PATH_NAMES));
+    WANT(is_fault(validate(&first, sizeof first, BYTES(FROM_ONE), &answer), &answer, 0, X509_PATH_NAMES));
+    WANT(validate(&first, sizeof first, BYTES(OIDS_FROM_ONE), &answer) == X509_OK);
     answer = UNTOUCHED;
     WANT(validate(&first, sizeof first, BYTES(UNUSABLE), &answer) == X509_VALUE && is_untouched(answer));
     WANT(validate(&first, sizeof first, BYTES("\x30\x01"), &answer) == X509_MALFORMED && is_untouched(answer));
@@ -367,7 +402,7 @@ static void long_paths(void)
         memcpy(path + at * LEN, authority, LEN);
         lens[at] = LEN;
     }
-    const x509_path_settings now = {1767323045, 0};
+    const x509_path_settings now = {.moment = 1767323045};
     x509_path_fault fault = {7, 7};
     x509_path_answer answer = UNTOUCHED;
     x509_certificate view;
@@ -381,7 +416,7 @@ static void long_paths(void)
     path[5 * LEN - 11] = 0;
     WANT(x509_path_check(BYTES(authority), path, sizeof path, lens, COUNT, now.moment, &fault) == X509_FAULT && fault.place == 4
          && fault.reason == X509_PATH_CRITICAL);
-    WANT(is_fault(x509_path_validate(BYTES(authority), path, sizeof path, lens, COUNT, PLAINLY(now)), &answer, 4, X509_PATH_CRITICAL));
+    WANT(is_fault(x509_path_validate(BYTES(authority), path, sizeof path, lens, COUNT, PLAINLY(now)), &answer, 4, X509_PATH_EXTENSION));
 }
 
 static void lists(void)

@@ -171,6 +171,98 @@ static void timestamps(void)
     WANT(view.timestamp == 1700000000123 && is_at(view.extensions, 43, 1) && view.hash == 4 && view.signature_algorithm == 3 && is_at(view.signature, 48, 2));
 }
 
+/* A certificate and its precertificate (RFC 6962 3.1, 3.2): the fields before the extensions, their extensions, and algorithm and signature; and the SHA-256
+ * digest of the key, which is `30 0d 30 05 06 03 2a 03 04 03 04 00 61 62 63`. */
+#define FIELDS \
+    "\xa0\x03\x02\x01\x02\x02\x01\x2a\x30\x05\x06\x03\x2a\x03\x04\x30\x0c\x31\x0a\x30\x08\x06\x03\x55\x04\x03\x0c\x01\x52\x30\x1e\x17\x0d\x31\x30" \
+    "\x30\x31\x30\x31\x30\x38\x33\x30\x30\x30\x5a\x17\x0d\x33\x30\x31\x32\x33\x31\x30\x38\x33\x30\x30\x30\x5a\x30\x0c" \
+    "\x31\x0a\x30\x08\x06\x03\x55\x04\x03\x0c\x01\x52\x30\x0d\x30\x05\x06\x03\x2a\x03\x04\x03\x04\x00\x61\x62\x63"
+#define USAGE "\x30\x0e\x06\x03\x55\x1d\x0f\x01\x01\xff\x04\x04\x03\x02\x01\x06"
+#define LISTED "\x30\x46\x06\x0a\x2b\x06\x01\x04\x01\xd6\x79\x02\x04\x02\x04\x38\x04\x36\x00\x34\x00\x32" TIMESTAMP
+#define POISON "\x30\x13\x06\x0a\x2b\x06\x01\x04\x01\xd6\x79\x02\x04\x03\x01\x01\xff\x04\x02\x05\x00"
+#define SIGNED "\x30\x05\x06\x03\x2a\x03\x04\x03\x02\x00\xaa"
+#define ISSUED "\x30\x81\xc4\x30\x81\xb6" FIELDS "\xa3\x5a\x30\x58" USAGE LISTED SIGNED
+#define PRECERT "\x30\x81\x91\x30\x81\x83" FIELDS "\xa3\x27\x30\x25" USAGE POISON SIGNED
+#define LOGGED "\x30\x6e" FIELDS "\xa3\x12\x30\x10" USAGE
+#define KEY_HASH "\x2b\x56\xae\x5e\x08\xc5\x72\xb0\x29\x58\x01\xb4\x7d\x8f\xf8\x10\x66\xc1\xb0\x92\x5d\x8d\x68\x70\xa2\xe1\xb9\x91\x34\x70\x50\x6d"
+/* of version 1, a timestamp, and its moment */
+#define SIGNED_FRONT "\x00\x00\x00\x00\x01\x8b\xcf\xe5\x68\x7b"
+
+static void logged_parts(void)
+{
+    const char listed_twice[] = "\x30\x82\x01\x0f\x30\x82\x01\x00" FIELDS "\xa3\x81\xa3\x30\x81\xa0" LISTED USAGE LISTED SIGNED;
+    const char poisoned_twice[] = "\x30\x81\x96\x30\x81\x88" FIELDS "\xa3\x2c\x30\x2a" POISON POISON SIGNED;
+    WANT(WROTE(x509_logged_part(BYTES(ISSUED), room, sizeof room, &written), LOGGED));
+    WANT(WROTE(x509_logged_precertificate(BYTES(PRECERT), room, sizeof room, &written), LOGGED));
+    room[0] = 7;
+    WANT(x509_logged_part(BYTES(ISSUED), room, 111, &written) == X509_ROOM && written == 112 && room[0] == 7);
+    WANT(x509_logged_precertificate(BYTES(PRECERT), NULL, 0, &written) == X509_ROOM && written == 112);
+    written = 77;
+    WANT(x509_logged_part(BYTES(PRECERT), room, sizeof room, &written) == X509_ABSENT);
+    WANT(x509_logged_precertificate(BYTES(ISSUED), room, sizeof room, &written) == X509_ABSENT);
+    WANT(x509_logged_part(BYTES(listed_twice), room, sizeof room, &written) == X509_REPEATED);
+    WANT(x509_logged_precertificate(BYTES(poisoned_twice), room, sizeof room, &written) == X509_REPEATED);
+    WANT(x509_logged_part(nothing, 0, room, sizeof room, &written) == X509_MALFORMED);
+    WANT(x509_logged_precertificate(BYTES("\x30\x00"), room, sizeof room, &written) == X509_MALFORMED);
+    WANT(written == 77 && room[0] == 7);
+}
+
+static void signed_timestamps(void)
+{
+    const char listed_twice[] = "\x30\x82\x01\x0f\x30\x82\x01\x00" FIELDS "\xa3\x81\xa3\x30\x81\xa0" LISTED USAGE LISTED SIGNED;
+    WANT(WROTE(x509_timestamp_signed_data(BYTES(TIMESTAMP), BYTES(ISSUED), BYTES(PRECERT), room, sizeof room, &written),
+               SIGNED_FRONT "\x00\x01" KEY_HASH "\x00\x00\x70" LOGGED "\x00\x01\xee"));
+    WANT(WROTE(x509_timestamp_signed_data_beside(BYTES(TIMESTAMP), BYTES(ISSUED), room, sizeof room, &written),
+               SIGNED_FRONT "\x00\x00\x00\x00\xc7" ISSUED "\x00\x01\xee"));
+    WANT(WROTE(x509_timestamp_signed_data_beside(BYTES(TIMESTAMP), BYTES("\xab"), room, sizeof room, &written),
+               SIGNED_FRONT "\x00\x00\x00\x00\x01\xab\x00\x01\xee"));
+    room[0] = 7;
+    WANT(x509_timestamp_signed_data(BYTES(TIMESTAMP), BYTES(ISSUED), BYTES(ISSUED), room, 161, &written) == X509_ROOM && written == 162 && room[0] == 7);
+    WANT(x509_timestamp_signed_data_beside(BYTES(TIMESTAMP), BYTES("\xab"), NULL, 0, &written) == X509_ROOM && written == 19);
+    written = 77;
+    WANT(x509_timestamp_signed_data(BYTES(TIMESTAMP), BYTES(PRECERT), BYTES(ISSUED), room, sizeof room, &written) == X509_ABSENT);
+    WANT(x509_timestamp_signed_data(BYTES(TIMESTAMP), BYTES(listed_twice), BYTES(ISSUED), room, sizeof room, &written) == X509_REPEATED);
+    WANT(x509_timestamp_signed_data(nothing, 0, BYTES(ISSUED), BYTES(ISSUED), room, sizeof room, &written) == X509_MALFORMED);
+    WANT(x509_timestamp_signed_data(BYTES(TIMESTAMP "\x00"), BYTES(ISSUED), BYTES(ISSUED), room, sizeof room, &written) == X509_MALFORMED);
+    WANT(x509_timestamp_signed_data(BYTES(TIMESTAMP), nothing, 0, BYTES(ISSUED), room, sizeof room, &written) == X509_MALFORMED);
+    WANT(x509_timestamp_signed_data(BYTES(TIMESTAMP), BYTES(ISSUED), nothing, 0, room, sizeof room, &written) == X509_MALFORMED);
+    WANT(x509_timestamp_signed_data_beside(BYTES("\x01"), BYTES(ISSUED), room, sizeof room, &written) == X509_MALFORMED);
+    WANT(x509_timestamp_signed_data_beside(BYTES(TIMESTAMP), nothing, 0, room, sizeof room, &written) == X509_OVERLENGTH);
+    WANT(written == 77 && room[0] == 7);
+}
+
+/* The trees of two and of three leaves, whose entries are no byte, a byte 0 and a byte 16: the hashes by SHA-256, after RFC 6962 2.1. */
+#define LEAF_0 "\x6e\x34\x0b\x9c\xff\xb3\x7a\x98\x9c\xa5\x44\xe6\xbb\x78\x0a\x2c\x78\x90\x1d\x3f\xb3\x37\x38\x76\x85\x11\xa3\x06\x17\xaf\xa0\x1d"
+#define LEAF_1 "\x96\xa2\x96\xd2\x24\xf2\x85\xc6\x7b\xee\x93\xc3\x0f\x8a\x30\x91\x57\xf0\xda\xa3\x5d\xc5\xb8\x7e\x41\x0b\x78\x63\x0a\x09\xcf\xc7"
+#define LEAF_2 "\x02\x98\xd1\x22\x90\x6d\xcf\xc1\x08\x92\xcb\x53\xa7\x39\x92\xfc\x5b\x9f\x49\x3e\xa4\xc9\xba\xdb\x27\xb7\x91\xb4\x12\x7a\x7f\xe7"
+#define ROOT_2 "\xfa\xc5\x42\x03\xe7\xcc\x69\x6c\xf0\xdf\xcb\x42\xc9\x2a\x1d\x9d\xba\xf7\x0a\xd9\xe6\x21\xf4\xbd\x8d\x98\x66\x2f\x00\xe3\xc1\x25"
+#define ROOT_3 "\xae\xb6\xbc\xfe\x27\x4b\x70\xa1\x4f\xb0\x67\xa5\xe5\x57\x82\x64\xdb\x0f\xa9\xb5\x1a\xf5\xe0\xba\x15\x91\x58\xf3\x29\xe0\x6e\x77"
+
+static void merkle_trees(void)
+{
+    WANT(WROTE(x509_merkle_leaf_hash(nothing, 0, room, sizeof room, &written), LEAF_0));
+    WANT(WROTE(x509_merkle_leaf_hash(BYTES("\x10"), room, 32, &written), LEAF_2));
+    room[0] = 7;
+    WANT(x509_merkle_leaf_hash(BYTES("\x10"), room, 31, &written) == X509_ROOM && written == 32 && room[0] == 7);
+    WANT(x509_merkle_inclusion(BYTES(LEAF_1), 1, 3, BYTES(LEAF_0 LEAF_2), BYTES(ROOT_3)) == X509_OK);
+    WANT(x509_merkle_inclusion(BYTES(LEAF_2), 2, 3, BYTES(ROOT_2), BYTES(ROOT_3)) == X509_OK);
+    WANT(x509_merkle_inclusion(BYTES(LEAF_0), 0, 1, nothing, 0, BYTES(LEAF_0)) == X509_OK);
+    WANT(x509_merkle_inclusion(BYTES(LEAF_1), 0, 3, BYTES(LEAF_0 LEAF_2), BYTES(ROOT_3)) == X509_FAILED);
+    WANT(x509_merkle_inclusion(BYTES(LEAF_2), 3, 3, BYTES(ROOT_2), BYTES(ROOT_3)) == X509_FAILED);
+    WANT(x509_merkle_inclusion(BYTES(LEAF_2), 2, 3, BYTES(ROOT_2 ROOT_2), BYTES(ROOT_3)) == X509_FAILED);
+    WANT(x509_merkle_inclusion(BYTES(LEAF_2), 2, 3, BYTES(ROOT_2 "\x00"), BYTES(ROOT_3)) == X509_FAILED);
+    WANT(x509_merkle_inclusion(nothing, 0, 0, 1, nothing, 0, nothing, 0) == X509_FAILED);
+    WANT(x509_merkle_inclusion(BYTES(LEAF_0 "\x00"), 0, 1, nothing, 0, BYTES(LEAF_0 "\x00")) == X509_FAILED);
+    WANT(x509_merkle_consistency(2, 3, BYTES(ROOT_2), BYTES(ROOT_3), BYTES(LEAF_2)) == X509_OK);
+    WANT(x509_merkle_consistency(1, 3, BYTES(LEAF_0), BYTES(ROOT_3), BYTES(LEAF_1 LEAF_2)) == X509_OK);
+    WANT(x509_merkle_consistency(3, 3, BYTES(ROOT_3), BYTES(ROOT_3), nothing, 0) == X509_OK);
+    WANT(x509_merkle_consistency(3, 3, BYTES(ROOT_2), BYTES(ROOT_3), nothing, 0) == X509_FAILED);
+    WANT(x509_merkle_consistency(0, 3, BYTES(LEAF_0), BYTES(ROOT_3), nothing, 0) == X509_FAILED);
+    WANT(x509_merkle_consistency(3, 2, BYTES(ROOT_3), BYTES(ROOT_2), BYTES(LEAF_2)) == X509_FAILED);
+    WANT(x509_merkle_consistency(2, 3, BYTES(ROOT_2), BYTES(ROOT_3), BYTES("\x00")) == X509_FAILED);
+    WANT(x509_merkle_consistency(1, 1, BYTES("\x00"), BYTES("\x00"), nothing, 0) == X509_FAILED);
+}
+
 static void attributes(void)
 {
     x509_span rdn = {7, 7};
@@ -544,6 +636,9 @@ int main(int argc, char **argv)
     keys();
     anchors();
     timestamps();
+    logged_parts();
+    signed_timestamps();
+    merkle_trees();
     attributes();
     first_attributes();
     matching_names();

@@ -48,7 +48,7 @@ static x509_status ask(const question *it, x509_path_fault *fault)
 {
     if (!it->is_validated)
         return x509_path_check(it->anchor.bytes, it->anchor.len, it->path.bytes, it->path.len, it->lens, it->count, it->moment, fault);
-    const x509_path_settings settings = {it->moment, 0};
+    const x509_path_settings settings = {.moment = it->moment};
     x509_path_answer answer = {0, 0, {0, 0}, {0, 0}, 0};
     const x509_status status = x509_path_validate(it->anchor.bytes, it->anchor.len, it->path.bytes, it->path.len, it->lens, it->count, NULL, 0, NULL, 0,
                                                   &settings, sizeof settings, NULL, 0, &answer);
@@ -85,12 +85,12 @@ static x509_status check(const question *it, x509_path_fault *fault)
 /* Prints the answer, and says with what the program ends. */
 static int tell(x509_status status, x509_path_fault fault)
 {
-    static const char *const reasons[] = {"?",     "Decode",   "Algorithm", "Issuer",    "Moment", "Signature", "Repeated", "Critical",
-                                          "NotCa", "KeyUsage", "PathLen",   "Extension", "Names",  "Constraints"};
+    static const char *const reasons[] = {"?",         "Decode", "Algorithm",   "Issuer",         "Moment", "Signature",     "Repeated", "Critical", "NotCa",  "KeyUsage", "PathLen",
+                                          "Extension", "Names",  "Constraints", "RepeatedPolicy", "Policy", "PolicyMapping", "Purpose",  "Usage",    "Version"};
     if (status == X509_OK)
         printf("holds\n");
     else if (status == X509_FAULT)
-        printf("fault %zu %s\n", fault.place, reasons[fault.reason <= X509_PATH_CONSTRAINTS ? fault.reason : 0]);
+        printf("fault %zu %s\n", fault.place, reasons[fault.reason <= X509_PATH_VERSION ? fault.reason : 0]);
     else
         printf("refused %d\n", status);
     return status == X509_OK ? 0 : 1;

@@ -59,26 +59,6 @@ static int tell(x509_status status, const x509_revocation_answer *answer)
     return status == X509_OK && answer->status == X509_UNREVOKED ? 0 : 1;
 }
 
-/* Allocates the bytes of a file; none where it can't be read. */
-static octets read_file(const char *name)
-{
-    octets found = {NULL, 0};
-    FILE *file = fopen(name, "rb");
-    uint8_t *bytes = NULL;
-    if (file != NULL && fseek(file, 0, SEEK_END) == 0) {
-        const long len = ftell(file);
-        bytes = len > 0 ? malloc((size_t)len) : NULL;
-        rewind(file);
-        if (bytes != NULL && fread(bytes, 1, (size_t)len, file) == (size_t)len)
-            found = (octets){bytes, (size_t)len};
-        else
-            free(bytes);
-    }
-    if (file != NULL)
-        fclose(file);
-    return found;
-}
-
 int main(int argc, char **argv)
 {
     char *end = NULL;
@@ -92,7 +72,7 @@ int main(int argc, char **argv)
     x509_signed_crl *given = calloc(count, sizeof *given);
     size_t len = 0;
     for (size_t at = 0; files != NULL && at < count; at++) {
-        files[at] = read_file(argv[at + 2]);
+        files[at] = read_octets(argv[at + 2]);
         len += files[at].len;
     }
     uint8_t *in = malloc(len + 1);

@@ -117,6 +117,7 @@ static void no_pointers(void)
     WANT(x509_reencode(CERTIFICATE, 11, X509_RAW, NULL, 0, NULL, 0, &written) == X509_MALFORMED && written == 77);
     WANT(x509_reencode(CERTIFICATE, 11, X509_RAW, certificate, certificate_len, NULL, 0, &written) == X509_ROOM && written == certificate_len);
     written = 77;
+    WANT(x509_working_key(NULL, 0, NULL, 0, NULL, 0, &written) == X509_MALFORMED && written == 77);
     WANT(x509_name_text(NULL, 0, NULL, 0, &written) == X509_MALFORMED && written == 77);
     WANT(x509_name_text((const uint8_t *)"\x30\x00", 2, NULL, 0, &written) == X509_OK && written == 0);
     written = 77;
@@ -343,7 +344,7 @@ static void early_dates(void)
 /* An anchor or a part of one that is too long. */
 static void overlong_paths(const uint8_t *bytes, size_t len)
 {
-    const x509_path_settings settings = {MOMENT, 0};
+    const x509_path_settings settings = {.moment = MOMENT};
     x509_path_answer answer = {7, 7, {7, 7}, {7, 7}, 7};
     WANT(x509_path_validate(bytes, len, PATH, NULL, 0, NULL, 0, SETTINGS) == X509_OVERLENGTH);
     WANT(x509_path_validate(certificate, certificate_len, PATH, bytes, len, NULL, 0, SETTINGS) == X509_OVERLENGTH);
@@ -380,6 +381,17 @@ static void overlong_parts(uint8_t *bytes, size_t len)
     WANT(x509_name_from_text(bytes, len - 8, OUT) == X509_OVERLENGTH && written == 77);
 }
 
+/* What a log has of a certificate that is too long, and what a timestamp is a signature of: a timestamp of version 1, with an ID of zeros. */
+static void overlong_logged(const uint8_t *bytes, size_t len)
+{
+    static const uint8_t timestamp[49] = {[43] = 4, [44] = 3, [46] = 2, [47] = 7, [48] = 7};
+    written = 77;
+    WANT(x509_logged_part(bytes, len, OUT) == X509_OVERLENGTH && x509_logged_precertificate(bytes, len, OUT) == X509_OVERLENGTH);
+    WANT(x509_timestamp_signed_data(timestamp, sizeof timestamp, bytes, len, certificate, certificate_len, OUT) == X509_OVERLENGTH);
+    WANT(x509_timestamp_signed_data_beside(timestamp, sizeof timestamp, bytes, len, OUT) == X509_OVERLENGTH);
+    WANT(x509_timestamp_signed_data_beside(timestamp, sizeof timestamp, bytes, (size_t)1 << 24, OUT) == X509_OVERLENGTH && written == 77);
+}
+
 /* 268,435,456 bytes are one too many; these are zeros. */
 static void overlong(void)
 {
@@ -393,6 +405,7 @@ static void overlong(void)
     WANT(x509_certificate_view(bytes, len, &view) == X509_OVERLENGTH);
     WANT(x509_certificate_extension(bytes, len, OID, 3, &found) == X509_OVERLENGTH);
     WANT(x509_certificate_signature(bytes, len, &signature) == X509_OVERLENGTH);
+    overlong_logged(bytes, len);
     WANT(x509_path_check(bytes, len, PATH, MOMENT, &fault) == X509_OVERLENGTH);
     WANT(is_decode(x509_path_check(certificate, certificate_len, bytes, len, &len, 1, MOMENT, &fault)));
     WANT(x509_crl_walk(bytes, len, &entries) == X509_OVERLENGTH);
@@ -405,6 +418,7 @@ static void overlong(void)
     WANT(x509_certificate_reencode(bytes, len, room, sizeof room, &written) == X509_OVERLENGTH);
     WANT(x509_reencode(CERTIFICATE, 11, X509_RAW, bytes, len, room, sizeof room, &written) == X509_OVERLENGTH);
     WANT(x509_name_text(bytes, len, room, sizeof room, &written) == X509_OVERLENGTH);
+    WANT(x509_working_key(bytes, len, bytes, len, room, sizeof room, &written) == X509_OVERLENGTH);
     refused_documents(bytes, len, X509_OVERLENGTH);
     WANT(x509_signed_slice(bytes, len, &part) == X509_MALFORMED);
     refused_values(bytes, len, X509_OVERLENGTH);

@@ -8,6 +8,8 @@
 #include <openssl/rsa.h>
 #include <openssl/x509.h>
 #include <stdint.h>
+#include <stdio.h>
+#include <stdlib.h>
 #include <string.h>
 #include "x509.h"
 
@@ -118,6 +120,26 @@ static inline int is_signature(octets whole, const x509_signature *signature, oc
     EVP_PKEY_free(key);
     ERR_pop_to_mark(); /* the thread's errors are as they were */
     return is_good;
+}
+
+/* Allocates the bytes of a file; none where it can't be read. */
+static inline octets read_octets(const char *name)
+{
+    octets found = {NULL, 0};
+    FILE *file = fopen(name, "rb");
+    uint8_t *bytes = NULL;
+    if (file != NULL && fseek(file, 0, SEEK_END) == 0) {
+        const long len = ftell(file);
+        bytes = len > 0 ? malloc((size_t)len) : NULL;
+        rewind(file);
+        if (bytes != NULL && fread(bytes, 1, (size_t)len, file) == (size_t)len)
+            found = (octets){bytes, (size_t)len};
+        else
+            free(bytes);
+    }
+    if (file != NULL)
+        fclose(file);
+    return found;
 }
 
 #endif

@@ -34,7 +34,7 @@ NAME = "x509-rattle"
 SCRIPTS = pathlib.Path("tools/build")
 # what a program in C, Rust or Python is written after; the others in examples/ are tests
 EXAMPLES = {
-    "c": "authority.c facts.c name.c path.c payload.h payloads.c revoked.c show.c verifying.h",
+    "c": "authority.c facts.c name.c path.c payload.h payloads.c revoked.c show.c timestamps.c verifying.h",
     "python": "authority.py facts.py name.py path.py payload.py payloads.py show.py",
     "data": "certificate.der list.der request.der",
 }

@@ -10,12 +10,13 @@ COMMENT = re.compile(r"/\*.*?\*/", re.S)
 
 @dataclasses.dataclass(frozen=True)
 class Parameter:
-    """A parameter or a field: its type without `const` and without the star, and whether it is a pointer and to what doesn't change."""
+    """A parameter or a field: its type without `const` and without the star, whether it is a pointer and to what doesn't change, and of how many it is an array."""
 
     name: str
     kind: str
     is_pointer: bool
     is_const: bool
+    count: int = 0
 
 
 @dataclasses.dataclass(frozen=True)
@@ -31,11 +32,11 @@ def without_comments(text):
 
 
 def parameter(text):
-    """`const uint8_t *in` and the like."""
-    found = re.fullmatch(r"(const )?(\w+) (\*?)(\w+)", " ".join(text.split()))
+    """`const uint8_t *in`, `uint8_t purpose[64]` and the like."""
+    found = re.fullmatch(r"(const )?(\w+) (\*?)(\w+)(?:\[(\d+)\])?", " ".join(text.split()))
     if found is None:
         raise ValueError(f"what is the parameter {text!r}?")
-    return Parameter(found[4], found[2], found[3] == "*", found[1] is not None)
+    return Parameter(found[4], found[2], found[3] == "*", found[1] is not None, int(found[5] or 0))
 
 
 def parameters(text):

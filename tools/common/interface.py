@@ -49,7 +49,7 @@ def asked(text):
 
 
 def in_c(it):
-    return f"{'const ' if it.is_const else ''}{it.kind}{' *' if it.is_pointer else ''}"
+    return f"{'const ' if it.is_const else ''}{it.kind}{f'[{it.count}]' if it.count else ''}{' *' if it.is_pointer else ''}"
 
 
 def interface(text=None):

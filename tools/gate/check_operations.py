@@ -30,11 +30,11 @@ def written_by_macros(text, macros):
 
 
 def rust_names():
-    """What `lib.rs` and `extension.rs` export, with the methods of each type as Type::method, and the constants of a public module as module::NAME."""
+    """What `lib.rs` and `extension.rs` export, with the methods of each type as Type::method, and what a public module has as module::NAME."""
     found = set()
     for module in re.findall(r"^pub mod (\w+);", (RUST / "lib.rs").read_text(encoding="utf-8"), re.M):
         text = (RUST / f"{module}.rs").read_text(encoding="utf-8")
-        found.update(f"{module}::{name}" for name in re.findall(r"^pub const (\w+)", text, re.M))
+        found.update(f"{module}::{name}" for name in re.findall(r"^pub (?:const|fn) (\w+)", text, re.M))
     for name in ("lib.rs", "extension.rs"):
         text = (RUST / name).read_text(encoding="utf-8")
         found.update(re.findall(r"^pub fn (\w+)", text, re.M))
@@ -54,8 +54,9 @@ def rust_names():
 
 
 def python_names():
-    """What the package exports, with what its classes and those above them have as Class.name."""
-    trees = [ast.parse(file.read_text(encoding="utf-8")) for file in sorted(PYTHON.glob("*.py"))]
+    """What the package exports, with what its classes and those above them have as Class.name, and its modules as module.name."""
+    files = {file.stem: ast.parse(file.read_text(encoding="utf-8")) for file in sorted(PYTHON.glob("*.py"))}
+    trees = files.values()
     package = ast.parse((PYTHON / "__init__.py").read_text(encoding="utf-8"))
     exported = {it.asname or it.name for part in package.body if isinstance(part, ast.ImportFrom) for it in part.names}
     classes = {it.name: it for tree in trees for it in tree.body if isinstance(it, ast.ClassDef)}
@@ -63,7 +64,7 @@ def python_names():
     def members(name):
         it = classes.get(name)
         if it is None:
-            return set()
+            return {part.name for part in files[name].body if isinstance(part, ast.FunctionDef)} if name in files else set()
         own = {part.name for part in it.body if isinstance(part, ast.FunctionDef)}
         for part in ast.walk(it):
             if isinstance(part, ast.Attribute) and isinstance(part.ctx, ast.Store) and isinstance(part.value, ast.Name) and part.value.id == "self":

@@ -13,7 +13,7 @@ from list_rules import TOP, docs_of, written
 CODE = TOP / "crates/x509_lint_web/src"
 PAGE = TOP / "docs/WEB_RULES.md"
 SEVERITIES = {"must": "error", "should": "warning"}
-HEAD = """# The rules of `x509_lint_web`
+HEAD = """# The rules of `x509_lint_web`, with sections and days from memory of version 2.1
 
 `tools/gate/list_web_rules.py` makes this page of the rules in `crates/x509_lint_web/src/rule`. They are those of the Baseline Requirements for TLS server
 certificates (TLS BR) of the CA/Browser Forum, of version 2.0 and later, that a certificate alone shows. Whether a rule is broken is a definition of

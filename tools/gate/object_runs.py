@@ -2,6 +2,7 @@
 
 What is to be printed is stated here by hand, but for the texts that are handed in.
 """
+import base64
 import os
 import pathlib
 import subprocess
@@ -10,13 +11,27 @@ import tomllib
 
 TOP = pathlib.Path(__file__).resolve().parents[2]
 PEM = {
-    b"-----BEGIN CERTIFICATE-----\nMAA=\n-----END CERTIFICATE-----\n": "x509",
+    b"-----BEGIN CERTIFICATE-----\nMAA=\n-----END CERTIFICATE-----\n" * 2: "x509",
+    b"-----BEGIN CERTIFICATE-----\nMAA\n-----END CERTIFICATE-----\n": "x509",
+    b"-----BEGIN CERTIFICATE-----\nMA A=\n-----END CERTIFICATE-----\n": "x509",
+    b"-----BEGIN CERTIFICATE-----\nMAA=\n-----END X509 CRL-----\n": "x509",
     b"-----BEGIN TRUSTED CERTIFICATE-----\n": "x509",
     b"-----BEGIN ": "x509",
-    b"-----BEGIN X509 CRL-----\nMAA=\n-----END X509 CRL-----\n": "crl",
+    b"-----BEGIN X509 CRL-----\nMAA=\n": "crl",
     b"-----BEGIN CERTIFICATE REQUEST-----\r\n": "req",
 }
-GARBAGE = b"-----BEGIN", b"\xff" * 40, b"\x30\x80\0\0", b"no certificate\n", b" -----BEGIN CERTIFICATE-----\n", b"\n" + b"ab" * 20
+PEM_OF_NOTHING = b"-----BEGIN CERTIFICATE-----\nMAA=\n-----END CERTIFICATE-----\n"
+GARBAGE = PEM_OF_NOTHING, b"-----BEGIN", b"\xff" * 40, b"\x30\x80\0\0", b"no certificate\n", b" -----BEGIN CERTIFICATE-----\n", b"\n" + b"ab" * 20
+
+
+def pem_of(data):
+    """PEM of an object (RFC 7468 2): its base64 in lines, or in one; lines that end otherwise; a text around it; another label."""
+    text = base64.b64encode(data).decode()
+    lines = "".join(f"{text[at : at + 64]}\n" for at in range(0, len(text), 64))
+    for label, body in (("CERTIFICATE", lines), ("X", text + "\n")):
+        found = f"-----BEGIN {label}-----\n{body}-----END {label}-----\n"
+        ends = (found.replace("\n", end) for end in ("\r\n", "\r", " \t\n", "\n\n"))
+        yield from (it.encode() for it in (found, *ends, found.rstrip(), f"Subject: ö\n\n{found}a comment\n"))
 
 
 def version():
@@ -76,7 +91,7 @@ class Program:
         yield "nothing", [], b"", self.told("standard input", f"{self.no_object}; it is empty")
         yield "white space", [], b" \r\n", self.told("standard input", f"{self.no_object}; it is empty")
         for data, command in PEM.items():
-            hint = f"; this looks like PEM: `openssl {command} -outform DER`"
+            hint = f"; this looks like PEM, but not of one object: `openssl {command} -outform DER`"
             yield f"PEM {data[:30]}", [], data, self.told("standard input", self.no_object + hint)
         for data in GARBAGE:
             yield f"garbage {data[:30]}", [], data, self.told("standard input", self.no_object)
@@ -93,6 +108,8 @@ class Program:
             for words in ([path], ["--", path], [str(folder / "." / path)]):
                 yield f"the file {at}, {len(words)} words", words, b"", (status, text, "")
             yield f"the object {at} on standard input, by name", ["-"], data, (status, text, "")
+            for armoured in pem_of(data):
+                yield f"the object {at} in PEM, {armoured[:20]}", [], armoured, (status, text, "")
         missing, hidden, strange = str(folder / "no such file"), str(folder / "hidden"), str(folder / "a\nb\x1b[2J")
         yield "no file", [missing], b"", self.told(missing, "no such file")
         yield "a file below a file", [paths[0] + "/x"], b"", self.told(paths[0] + "/x", "can't be opened")

@@ -144,10 +144,23 @@ revoked() {
     wants "$name, no CRL" 1 "$folder/no_status.txt" "$@" 1893456000 "${server[@]}" "$folder/one"
 }
 
+# usage: timestamps NAME WORDS..: the program says of each SCT of certificates whether it is signed, and of what is none that it is refused
+timestamps() {
+    local name=$1 made=$folder/scts
+    shift
+    [ -d "$made" ] || return 0
+    wants "$name, SCTs that are signed" 0 "$made/good.txt" "$@" "$made/good.der" "$made/issuer.der" "$made/rsa.der" "$made/ec.der"
+    wants "$name, an SCT of an unknown log" 1 "$made/known.txt" "$@" "$made/good.der" "$made/issuer.der" "$made/ec.der"
+    wants "$name, SCTs that aren't signed" 1 "$made/all.txt" "$@" "$made/certificate.der" "$made/issuer.der" "$made/ec.der" "$made/rsa.der"
+    wants "$name, no SCTs" 1 "$folder/no_timestamps.txt" "$@" "$made/issuer.der" "$made/issuer.der" "$made/ec.der"
+    wants "$name, no certificate" 1 "$folder/no_status.txt" "$@" "$folder/one" "$made/issuer.der" "$made/ec.der"
+}
+
 echo 'certificate: refused with 2' >"$folder/refused.txt"
 echo unrevoked >"$folder/unrevoked.txt"
 echo undetermined >"$folder/undetermined.txt"
 echo 'refused 2' >"$folder/no_status.txt"
+echo 'refused 6' >"$folder/no_timestamps.txt"
 # keyCompromise, at the first second of the authority's certificates
 echo 'revoked 0 1 1767225600' >"$folder/revoked.txt"
 # the same by the second of two CRLs, which is the newer one (RFC 5280 5.2.3)
@@ -178,6 +191,7 @@ if has python3 \
     rules=("$data/certificate.der" "$data/list.der" "$folder/hostile/generalized_time_before_2050.der")
     if python3 -c 'import cryptography' 2>"$folder/said"; then
         python3 -B "$data/make_path.py" "$folder/paths"
+        python3 -B "$data/make_timestamps.py" "$folder/scts"
         ! has openssl "its answer to the path" || accept_path
         python3 -B "$gate/compare_facts.py" "$folder/stated"
     else
@@ -219,7 +233,7 @@ compiler=("${CC:-cc}" -std=c11 -Wall -Wextra -Werror -O1 -g -I "$top/include")
 callers=(show facts name calls calls_values calls_parts calls_build calls_documents rules payloads)
 printf '%s\n' '#include <openssl/evp.h>' 'int main(void) { return EVP_DigestVerifyInit_ex == NULL; }' >"$folder/tried.c"
 if "${CC:-cc}" "$folder/tried.c" -lcrypto -o "$folder/tried" 2>"$folder/said"; then
-    callers+=(path authority revoked)
+    callers+=(path authority revoked timestamps)
 else
     echo "left out, since libcrypto 3 with its headers isn't installed: paths and an authority in C"
 fi
@@ -230,7 +244,7 @@ compile() {
     shift
     for name in "${callers[@]}"; do
         libraries=("$folder/libx509_c.a" "$folder/liblibc_c.a")
-        case $name in path | authority | revoked) libraries+=(-lcrypto) ;; esac
+        case $name in path | authority | revoked | timestamps) libraries+=(-lcrypto) ;; esac
         "${compiler[@]}" "$@" "$top/examples/c/$name.c" "${libraries[@]}" -o "$folder/$name$suffix"
     done
 }
@@ -252,6 +266,7 @@ run_c() {
     [ ! -e "$folder/path$suffix" ] || paths paths "$name" "$@" "$folder/path$suffix"
     [ ! -e "$folder/authority$suffix" ] || authority "$name" "$@" "$folder/authority$suffix"
     [ ! -e "$folder/revoked$suffix" ] || revoked "$name" "$@" "$folder/revoked$suffix"
+    [ ! -e "$folder/timestamps$suffix" ] || timestamps "$name" "$@" "$folder/timestamps$suffix"
 }
 
 # usage: run_spoilt NAME SUFFIX: the checker of paths in C says of spoilt paths what that in Python does

@@ -45,7 +45,7 @@ with open("crates/x509_tool/out/x509_tool", "w") as it:
     it.write("#!/bin/sh\necho proved $*\nexit 5\n")
 os.chmod("crates/x509_tool/out/x509_tool", 0o755)
 """
-USAGE = b"usage: x509_tool reencode TYPE [rfc5280|raw] | name | encode-name | path MOMENT\n"
+USAGE = b"usage: x509_tool reencode TYPE [rfc5280|raw] | name | encode-name\n       x509_tool path [--any-signature] MOMENT\n"
 failed = []
 
 

@@ -1082,7 +1082,7 @@ WEB_HELP = """  --web                          tells which rules of the Baseline
                                  CA/Browser Forum certificates break, of those in force at
                                  MOMENT, as 2026-03-15T00:00:00Z
 """
-NO_OBJECT = "not a certificate, CRL, CSR or trust anchor in DER or hex"
+NO_OBJECT = "not a certificate, CRL, CSR or trust anchor in DER, PEM or hex"
 KINDS = {"certificate": "a certificate", "crl": "a CRL", "csr": "a CSR", "anchor": "a trust anchor"}
 
 
@@ -1203,13 +1203,13 @@ def refused(program):
         yield name, found == (2, "", USAGE), found
     for kind, data in (("certificate", crl()), ("crl", csr()), ("csr", anchor()), ("anchor", csr())):
         found = ended(program, [kind], data)
-        yield f"no {kind}", found == (2, "", f"x509_linter: standard input: not {KINDS[kind]} in DER or hex\n"), found
+        yield f"no {kind}", found == (2, "", f"x509_linter: standard input: not {KINDS[kind]} in DER, PEM or hex\n"), found
 
 
 # what certificate() breaks of the Baseline Requirements, with the sections, and the day from which on each is in force
 WEB_LINES = (
     ("error subject_alt_name_absent (TLS BR 7.1.2.7.12)", ""),
-    ("warning common_name_present (TLS BR 7.1.2.7.2)", "2023-09-15"),
+    ("warning common_name_present (TLS BR 7.1.2.7)", "2023-09-15"),
     ("error certificate_policies_absent (TLS BR 7.1.2.7.9)", ""),
     ("error extended_key_usage_absent (TLS BR 7.1.2.7.10)", ""),
 )
@@ -1246,13 +1246,20 @@ def at_moments(program):
         "",
     ):
         found = ended(program, ["--web", text], data)
-        yield f"the moment `{text}`", found == usage, found
-    for words in (["--web"], ["--web", "-v"], ["--web", "--web", moment], ["--web", "-v", "--json", moment], ["--web", "-x", moment], ["--web=" + moment]):
+        refusal = f"x509_linter: not a moment, as 2026-03-15T00:00:00Z is one: {text}\n"
+        yield f"the moment `{text}`", found == (*usage[:2], refusal + usage[2]), found
+    found = ended(program, ["--web", "a\nb"], data)
+    refusal = "x509_linter: not a moment, as 2026-03-15T00:00:00Z is one: (a word with control characters)\n"
+    yield "a moment that could end a line", found == (*usage[:2], refusal + usage[2]), found
+    for words in (["--web"], ["--web", "-v"]):
+        found = ended(program, words, data)
+        yield f"the words {words}", found == (*usage[:2], "x509_linter: --web stands without a moment\n" + usage[2]), found
+    for words in (["--web", "--web", moment], ["--web", "-v", "--json", moment], ["--web", "-x", moment], ["--web=" + moment]):
         found = ended(program, words, data)
         yield f"the words {words}", found == usage, found
     for name, other in (("CRL", crl()), ("CSR", csr()), ("trust anchor", anchor())):
         found = ended(program, ["--web", moment], other)
-        yield f"a {name} with --web", found == (2, "", "x509_linter: standard input: not a certificate in DER or hex\n"), found
+        yield f"a {name} with --web", found == (2, "", "x509_linter: standard input: not a certificate in DER, PEM or hex\n"), found
     with tempfile.TemporaryDirectory() as folder:
         paths = [f"{folder}/{at}" for at in range(2)]
         for path in paths:

@@ -179,7 +179,7 @@ def try_linter(test, folder, at, what):
     test.says(
         f"{what}: x509_linter",
         (found.returncode, lines, found.stderr),
-        (2, [], "x509_linter: text.c: not a certificate, CRL, CSR or trust anchor in DER or hex\n"),
+        (2, [], "x509_linter: text.c: not a certificate, CRL, CSR or trust anchor in DER, PEM or hex\n"),
     )
 
 
@@ -214,8 +214,9 @@ def try_c_examples(test, at, examples, flags, what):
         ("authority", crypto, ["made"]),
         ("path", crypto, None),
         ("revoked", crypto, None),
+        ("timestamps", crypto, None),
     ):
-        if name in ("authority", "path", "revoked") and not crypto:
+        if name in ("authority", "path", "revoked", "timestamps") and not crypto:
             continue
         built = ["cc", "-std=c11", "-Wall", "-Wextra", "-Werror", examples / f"c/{name}.c", *said.split(), *more, "-o", name]
         if test.run(f"{what}: examples/c/{name}.c", built, at) is not None and words is not None:

@@ -21,7 +21,7 @@ from object_runs import Program, counted, ended
 from shown_objects import FORGED, anchors, crls, long_crl, objects, requests
 from test_linter import SIGNATURE
 
-NO_OBJECT = "not a certificate, CRL, CSR or trust anchor in DER or hex"
+NO_OBJECT = "not a certificate, CRL, CSR or trust anchor in DER, PEM or hex"
 REFUSED = f"x509_show: standard input: {NO_OBJECT}\n"
 UNWRITTEN = "x509_show: standard input: the output can't be written\n"
 USAGE = "usage: x509_show [certificate|crl|csr|anchor] [--json] [FILE..]\n"
@@ -37,7 +37,7 @@ def run(program, data, *words):
 
 
 def no_such(word):
-    return f"x509_show: standard input: not {WORDS[word]} in DER or hex\n"
+    return f"x509_show: standard input: not {WORDS[word]} in DER, PEM or hex\n"
 
 
 def is_forged(program, data):
@@ -201,7 +201,7 @@ def with_files(program):
         ):
             found = ended(program, words)
             yield f"files {words}", None if found == (0, wanted, "") else f"{found}, and not {wanted}"
-        found, wanted = ended(program, ["crl", *paths]), "".join(f"x509_show: {path}: not a CRL in DER or hex\n" for path in paths)
+        found, wanted = ended(program, ["crl", *paths]), "".join(f"x509_show: {path}: not a CRL in DER, PEM or hex\n" for path in paths)
         yield "files of another kind", None if found == (2, "", wanted) else f"{found}, and not {wanted}"
 
 

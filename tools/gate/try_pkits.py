@@ -21,15 +21,11 @@ try:
 except ImportError:  # signatures are left out then
     hashes = None
 
-sys.path.insert(0, str(pathlib.Path(__file__).resolve().parents[1] / "common"))
-import der
 from x509_cert import (
     AlgorithmIdentifier,
     CertificatePoliciesOID,
-    KeyKind,
     ObjectIdentifier,
     PathFault,
-    PublicKey,
     SignatureKind,
     X509Error,
     load_der_x509_certificate,
@@ -62,36 +58,23 @@ HASHES = {
 }
 
 
-class Verifier:
-    """Verifies the signatures of one path, topmost first: a DSA key without parameters has those of the key above it (RFC 5280 6.1.4 (f))."""
-
-    def __init__(self):
-        self.parameters = None
-
-    def key(self, data):
-        key = PublicKey(data)
-        if key.kind is KeyKind.dsa and key.parameters is None and self.parameters is not None:
-            data = der.sequence(der.sequence(der.object_identifier(1, 2, 840, 10040, 4, 1), self.parameters), der.bit_string(key.bits))
-        elif key.kind is KeyKind.dsa:
-            self.parameters = key.parameters
-        return serialization.load_der_public_key(data)
-
-    def __call__(self, key, algorithm, message, signature):
-        name = HASHES.get(AlgorithmIdentifier(algorithm).kind)
-        if name is None:
+def verify(key, algorithm, message, signature):
+    """Whether `cryptography` takes the bits for a signature of the message, for the key alone: what parameters it has from others is for the package to know."""
+    name = HASHES.get(AlgorithmIdentifier(algorithm).kind)
+    if name is None:
+        return False
+    digest = getattr(hashes, name)
+    try:
+        public = serialization.load_der_public_key(key)
+        if isinstance(public, rsa.RSAPublicKey):
+            public.verify(signature, message, padding.PKCS1v15(), digest())
+        elif isinstance(public, dsa.DSAPublicKey):
+            public.verify(signature, message, digest())
+        else:
             return False
-        digest = getattr(hashes, name)
-        try:
-            public = self.key(key)
-            if isinstance(public, rsa.RSAPublicKey):
-                public.verify(signature, message, padding.PKCS1v15(), digest())
-            elif isinstance(public, dsa.DSAPublicKey):
-                public.verify(signature, message, digest())
-            else:
-                return False
-        except (InvalidSignature, UnsupportedAlgorithm, ValueError):
-            return False
-        return True
+    except (InvalidSignature, UnsupportedAlgorithm, ValueError):
+        return False
+    return True
 
 
 def accept_all(_key, _algorithm, _message, _signature):
@@ -122,15 +105,15 @@ def readable(load, texts):
 def fault_of(anchor, case):
     """What is wrong with the path, or nothing."""
     path = [bytes.fromhex(it) for it in case["path"]]
-    verify = Verifier() if hashes else accept_all
+    verifier = verify if hashes else accept_all
     try:
-        found = validate_path(anchor, path, MOMENT, verify, **asked(case["settings"]))
+        found = validate_path(anchor, path, MOMENT, verifier, **asked(case["settings"]))
     except PathFault as fault:
         return str(fault)
     if hashes is None:
         return None
     crls, others = readable(load_der_x509_crl, case["crls"]), readable(load_der_x509_certificate, case["certs"])
-    statuses = path_revocation_statuses(found, anchor, crls, MOMENT, verify, certificates=others, use_deltas=True)
+    statuses = path_revocation_statuses(found, anchor, crls, MOMENT, verifier, certificates=others, use_deltas=True)
     for place, status in enumerate(statuses):
         if not status.is_unrevoked:
             return f"certificate {place} is {status.state.name}"

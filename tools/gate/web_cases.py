@@ -214,7 +214,40 @@ def name_rules():
     yield server(marked=["names"], subject=name()), ""
     for text, rules in (("a", "common_name_present"), ("b", "common_name_present common_name_not_in_alt_name")):
         yield server(subject=name((COUNTRY, "NL"), (COMMON_NAME, f"{text}.example.com")), names=hosts("a.example.com")), rules
-    yield validated(subject=name((COUNTRY, "NL"), (ORGANIZATION, "o"), (UNIT, "u"))), "organizational_unit_present"
+    stray, rewritten = "common_name_present common_name_not_in_alt_name", "common_name_present common_name_not_as_in_alt_name"
+    of_hosts = (("A.example.com", rewritten), ("*.example.com", "common_name_present"), ("*.Example.com", rewritten), ("example.com", stray))
+    of_addresses = (
+        *(("9.9.9.9", "common_name_present"), ("9.9.9.10", stray), ("009.9.9.9", stray), ("09090909", stray), ("b.example.com", stray)),
+        *(("2600::a:0:1", "common_name_present"), ("2600::A:0:1", rewritten), ("2600:0::a:0:1", rewritten)),
+    )
+    both = x509.SubjectAlternativeName([*hosts("a.example.com", "*.example.com"), *addresses("9.9.9.9", "2600::a:0:1")])
+    for text, rules in (*of_hosts, *of_addresses, ("b\u00fc.example.com", stray)):
+        yield server(subject=name((COUNTRY, "NL"), (COMMON_NAME, text)), names=both), rules
+    # a colon makes a text one of an address of version 6 alone, which is written without the dots of an IPv4 address
+    for text, address, rules in (
+        ("2600::1", "9.9.9.9", stray),
+        ("::ffff:909:909", "::ffff:9.9.9.9", "common_name_present"),
+        ("::ffff:9.9.9.9", "::ffff:9.9.9.9", rewritten),
+    ):
+        yield server(subject=name((COUNTRY, "NL"), (COMMON_NAME, text)), names=addresses(address)), rules
+    # a text in Unicode is one of a host with a label of IDNA alone
+    for text, host, rules in (
+        ("xn--b-eha.example.com", "xn--b-eha.example.com", "common_name_present"),
+        ("b\u00fc.example.com", "XN--b-xga.example.com", rewritten),
+        ("b\u00fc.example.com", "a.xn--b-eha.example.com", rewritten),
+        ("b~.example.com", "xn--b-eha.example.com", stray),
+        ("b\u00fc.example.com", "xn-b-xga.example.com", stray),
+    ):
+        yield server(subject=name((COUNTRY, "NL"), (COMMON_NAME, text)), names=hosts(host)), rules
+    organization = (ORGANIZATION, "o")
+    for policy, subject in (
+        (DOMAIN_VALIDATED, ()),
+        ("2.23.140.1.2.3", ()),
+        ("2.23.140.1.1", (organization,)),
+        (ORGANIZATION_VALIDATED, (organization,)),
+    ):
+        attribute = "domain_validated_attribute " if policy == DOMAIN_VALIDATED else ""
+        yield server(policies=policies(policy), subject=name((COUNTRY, "NL"), *subject, (UNIT, "u"))), attribute + "organizational_unit_present"
     first, second = ((COMMON_NAME, f"{letter}.example.com") for letter in "ab")
     of_both = hosts("a.example.com", "b.example.com")
     for subject in (name(first, second), name(first, (COUNTRY, "NL"), first), in_one(first, second), in_one(first, second, (COUNTRY, "NL"))):

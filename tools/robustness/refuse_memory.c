@@ -73,7 +73,7 @@ static void wrong(const char *what, long number)
 
 /* ---- each call */
 
-enum { CALLS = 88 };
+enum { CALLS = 95 };
 
 static uint8_t certificate[65536], list[65536], request[65536], room[65536], signed_list[3 * 65536];
 static size_t certificate_len, list_len, request_len;
@@ -124,6 +124,26 @@ static x509_signed_crl given[2];
 /* A value that stands in the source, with its length. */
 #define BYTES(text) (const uint8_t *)(text), sizeof(text) - 1
 
+/* A timestamp of version 1, without extensions, with a signature of one octet. */
+#define TIMESTAMP "\x00" "0123456789abcdef0123456789abcdef" "\x00\x00\x01\x8b\xcf\xe5\x68\x7b\x00\x00\x04\x03\x00\x01\xab"
+
+/* A certificate with that timestamp and no other extension, and its precertificate. */
+#define FIELDS \
+    "\xa0\x03\x02\x01\x02\x02\x01\x2a\x30\x05\x06\x03\x2a\x03\x04\x30\x00\x30\x1e\x17\x0d" "260101000000Z" "\x17\x0d" "270101000000Z" \
+    "\x30\x00\x30\x0b\x30\x05\x06\x03\x2a\x03\x04\x03\x02\x00\x61"
+#define SIGNED "\x30\x05\x06\x03\x2a\x03\x04\x03\x02\x00\xaa"
+#define ISSUED \
+    "\x30\x81\x98\x30\x81\x8a" FIELDS \
+    "\xa3\x48\x30\x46\x30\x44\x06\x0a\x2b\x06\x01\x04\x01\xd6\x79\x02\x04\x02\x04\x36\x04\x34\x00\x32\x00\x30" TIMESTAMP SIGNED
+#define PRECERT \
+    "\x30\x66\x30\x59" FIELDS \
+    "\xa3\x17\x30\x15\x30\x13\x06\x0a\x2b\x06\x01\x04\x01\xd6\x79\x02\x04\x03\x01\x01\xff\x04\x02\x05\x00" SIGNED
+
+/* The hashes of two leaves, of no byte and of a byte 0, and of the tree of both (RFC 6962 2.1). */
+#define LEAF "\x6e\x34\x0b\x9c\xff\xb3\x7a\x98\x9c\xa5\x44\xe6\xbb\x78\x0a\x2c\x78\x90\x1d\x3f\xb3\x37\x38\x76\x85\x11\xa3\x06\x17\xaf\xa0\x1d"
+#define OTHER_LEAF "\x96\xa2\x96\xd2\x24\xf2\x85\xc6\x7b\xee\x93\xc3\x0f\x8a\x30\x91\x57\xf0\xda\xa3\x5d\xc5\xb8\x7e\x41\x0b\x78\x63\x0a\x09\xcf\xc7"
+#define ROOT "\xfa\xc5\x42\x03\xe7\xcc\x69\x6c\xf0\xdf\xcb\x42\xc9\x2a\x1d\x9d\xba\xf7\x0a\xd9\xe6\x21\xf4\xbd\x8d\x98\x66\x2f\x00\xe3\xc1\x25"
+
 /* Octets that take memory, as up to 24 take none. */
 #define THIRTY "aaaaaaaaaaaaaaaaaaaaaaaaaaaaaa"
 
@@ -137,7 +157,7 @@ static x509_signed_crl given[2];
 #define REQUEST "\x30\x27\x02\x01\x00\x30\x00" KEY "\xa0\x11\x30\x0f\x06\x09\x2a\x86\x48\x86\xf7\x0d\x01\x09\x0e\x31\x02\x30\x00"
 
 /* The first second of the validity of the certificate; and constraints that permit each name of a directory. */
-static const x509_path_settings FIRST_SECOND = {1767323045, 0};
+static const x509_path_settings FIRST_SECOND = {.moment = 1767323045};
 static const x509_revocation_settings IN_FEBRUARY = {1769904000, 0};
 /* the CertificatePolicies of 1.2.3 */
 #define POLICIES "\x30\x06\x30\x04\x06\x02\x2a\x03"
@@ -204,9 +224,7 @@ static x509_status call(int number)
     case 24:
         return x509_anchor_view(certificate, certificate_len, &filled.anchor);
     case 25:
-        /* of version 1, without extensions, with a signature of one octet */
-        return x509_timestamp_view(BYTES("\x00" "0123456789abcdef0123456789abcdef" "\x00\x00\x01\x8b\xcf\xe5\x68\x7b\x00\x00\x04\x03\x00\x01\xab"),
-                                   &filled.timestamp);
+        return x509_timestamp_view(BYTES(TIMESTAMP), &filled.timestamp);
     case 26:
         return x509_extension_encode(BYTES("\x2a\x03"), 0, BYTES(THIRTY), room, sizeof room, &filled.count);
     case 27:
@@ -356,6 +374,22 @@ static x509_status call(int number)
         return x509_request_lint(request, request_len, room, sizeof room, &filled.count);
     case 86:
         return x509_anchor_lint(certificate, certificate_len, room, sizeof room, &filled.count);
+    case 87:
+        return x509_logged_part(BYTES(ISSUED), room, sizeof room, &filled.count);
+    case 88:
+        return x509_logged_precertificate(BYTES(PRECERT), room, sizeof room, &filled.count);
+    case 89:
+        return x509_timestamp_signed_data(BYTES(TIMESTAMP), BYTES(ISSUED), BYTES(PRECERT), room, sizeof room, &filled.count);
+    case 90:
+        return x509_timestamp_signed_data_beside(BYTES(TIMESTAMP), BYTES(ISSUED), room, sizeof room, &filled.count);
+    case 91:
+        return x509_merkle_inclusion(BYTES(LEAF), 0, 2, BYTES(OTHER_LEAF), BYTES(ROOT));
+    case 92:
+        return x509_merkle_consistency(1, 2, BYTES(LEAF), BYTES(ROOT), BYTES(OTHER_LEAF));
+    case 93:
+        /* a key without parameters under one of its algorithm with an INTEGER */
+        return x509_working_key(BYTES("\x30\x0d\x30\x08\x06\x03\x2a\x03\x04\x02\x01\x07\x03\x01\x00"),
+                                BYTES("\x30\x0a\x30\x05\x06\x03\x2a\x03\x04\x03\x01\x00"), room, sizeof room, &filled.count);
     default:
         /* in the first second of the validity */
         return x509_path_check(certificate, certificate_len, certificate, certificate_len, &certificate_len, 1, 1767323045, &filled.fault);

@@ -136,7 +136,7 @@ typedef struct {
     uint32_t bases[POOL];
 } pool;
 
-enum { MOST_POOLS = 160 };
+enum { MOST_POOLS = 200 };
 static pool pools[MOST_POOLS];
 static size_t pool_count = 0;
 
@@ -158,8 +158,8 @@ static void put(pool *to, size_t number)
 }
 
 /* Which pool an input is of: that of what the call with one input accepts, or `found:` and the call whose first span it is, or `kind:` and the type of rows,
- * or `paths`, certificates that are a path under themselves, `constraints` and `policies`, NameConstraints, CertificatePolicies and no bytes, or `settings` of
- * a path or of CRLs. For a call with one input it is its own. */
+ * or `paths`, certificates that are a path under themselves, `constraints` and `policies`, NameConstraints, CertificatePolicies and no bytes, `settings` of
+ * a path or of CRLs, `hash`, or `hashes`, none too. For a call with one input it is its own. */
 typedef struct {
     const char *call, *input, *pool;
 } source;
@@ -168,11 +168,20 @@ static const source SOURCES[] = {
     {"x509_reencode", "name", "kind:typename"},
     {"x509_build_crl", "issuer", "x509_certificate_check"},
     {"x509_build_crl", "number", "x509_oid_text"},
+    {"x509_merkle_inclusion", "path", "hashes"},
     {NULL, "path", "paths"},
     {NULL, "anchor", "x509_certificate_check"},
     {NULL, "name_constraints", "constraints"},
     {NULL, "policies", "policies"},
     {NULL, "settings", "settings"},
+    {"x509_timestamp_signed_data", "certificate", "x509_logged_part"},
+    {"x509_timestamp_signed_data", "issuer", "x509_certificate_check"},
+    {NULL, "timestamp", "x509_timestamp_view"},
+    {NULL, "leaf_hash", "hash"},
+    {NULL, "root", "hash"},
+    {NULL, "old_root", "hash"},
+    {NULL, "new_root", "hash"},
+    {NULL, "proof", "hashes"},
     {NULL, "certificate", "x509_certificate_check"},
     {"x509_revocation_status", "in", "x509_crl_check"},
     {"x509_certificate_extension", "in", "x509_certificate_check"},
@@ -194,6 +203,7 @@ static const source SOURCES[] = {
     {NULL, "text", "x509_name_escape"},
     {NULL, "serial_number", "x509_serial_number"},
     {NULL, "algorithm", "x509_algorithm_view"},
+    {"x509_working_key", "above", "x509_key_view"},
     {NULL, "key", "x509_key_view"},
     {NULL, "issuer_key", "x509_key_view"},
     {NULL, "extensions", "kind:extensions"},
@@ -433,6 +443,8 @@ static uint64_t any_number(asker *by, const char *name, octets first)
         return string_types[below(&by->state, sizeof string_types)];
     if (strcmp(name, "status") == 0)
         return below(&by->state, 12) - 2;
+    if (strcmp(name, "index") == 0 || strcmp(name, "size") == 0 || strcmp(name, "old_size") == 0 || strcmp(name, "new_size") == 0)
+        return below(&by->state, 4);
     if (strcmp(name, "profile") == 0 || strncmp(name, "has_", 4) == 0 || strcmp(name, "critical") == 0 || strcmp(name, "is_bounded") == 0)
         return below(&by->state, 2);
     return choice == 1 ? below(&by->state, UINT64_MAX) : 1767323045 + below(&by->state, 1u << 29);
@@ -530,7 +542,7 @@ static void take_moment(asker *by, int path)
     x509_certificate view;
     if (input < 0 || x509_certificate_view(by->copies[path], by->lens[0], &view) != X509_OK)
         return;
-    const x509_path_settings settings = {view.not_before, below(&by->state, 8)};
+    const x509_path_settings settings = {.moment = view.not_before, .flags = below(&by->state, 32), .purposes = below(&by->state, 64)};
     copy_in(by, input, (const uint8_t *)&settings, sizeof settings);
 }
 
@@ -781,6 +793,12 @@ static void fill_pools(void)
         put(pool_of("policies"), policies->bases[at]);
         put(pool_of("policies"), keep("none", NULL, 0));
     }
+    /* two hashes; none, one and two of them */
+    static const uint8_t hashes[64] = {[0] = 1, [63] = 2};
+    for (size_t len = 0; len <= sizeof hashes; len += 32)
+        put(pool_of("hashes"), keep(len == 0 ? "none" : "", hashes, len));
+    put(pool_of("hash"), keep("", hashes, 32));
+    put(pool_of("hash"), keep("", hashes + 32, 32));
     put(pool_of("settings"), keep("none", NULL, 0));
     put(pool_of("settings"), keep("", (const uint8_t *)"\1\0\0\0\0\0\0\0\1\0\0\0\0\0\0", 16));
     for (size_t number = 0; number < base_count; number++) {
@@ -810,9 +828,26 @@ static void gather(const char *rows, int files, char **names)
                                         "1970-01-01T00:00:00Z", "2026-01-02T03:04:05Z"};
     /* an OCTET STRING with a list of one timestamp (RFC 6962 3.3): v1, an ID of zeros, a moment, no extensions, SHA-256 with ECDSA, two octets */
     static const uint8_t timestamps[55] = {0x04, 53, 0, 51, 0, 49, [44] = 1, [49] = 4, [50] = 3, [52] = 2, [53] = 7, [54] = 7};
+    /* a certificate with one timestamp, and its precertificate (RFC 6962 3.1) */
+    static const uint8_t issued[] = {
+        0x30, 0x81, 0x98, 0x30, 0x81, 0x8a, 0xa0, 0x03, 0x02, 0x01, 0x02, 0x02, 0x01, 0x2a, 0x30, 0x05, 0x06, 0x03, 0x2a, 0x03, 0x04, 0x30, 0x00, 0x30,
+        0x1e, 0x17, 0x0d, 0x32, 0x36, 0x30, 0x31, 0x30, 0x31, 0x30, 0x30, 0x30, 0x30, 0x30, 0x30, 0x5a, 0x17, 0x0d, 0x32, 0x37, 0x30, 0x31, 0x30, 0x31,
+        0x30, 0x30, 0x30, 0x30, 0x30, 0x30, 0x5a, 0x30, 0x00, 0x30, 0x0b, 0x30, 0x05, 0x06, 0x03, 0x2a, 0x03, 0x04, 0x03, 0x02, 0x00, 0x61, 0xa3, 0x48,
+        0x30, 0x46, 0x30, 0x44, 0x06, 0x0a, 0x2b, 0x06, 0x01, 0x04, 0x01, 0xd6, 0x79, 0x02, 0x04, 0x02, 0x04, 0x36, 0x04, 0x34, 0x00, 0x32, 0x00, 0x30,
+        0x00, 0x30, 0x31, 0x32, 0x33, 0x34, 0x35, 0x36, 0x37, 0x38, 0x39, 0x61, 0x62, 0x63, 0x64, 0x65, 0x66, 0x30, 0x31, 0x32, 0x33, 0x34, 0x35, 0x36,
+        0x37, 0x38, 0x39, 0x61, 0x62, 0x63, 0x64, 0x65, 0x66, 0x00, 0x00, 0x01, 0x8b, 0xcf, 0xe5, 0x68, 0x7b, 0x00, 0x00, 0x04, 0x03, 0x00, 0x01, 0xab,
+        0x30, 0x05, 0x06, 0x03, 0x2a, 0x03, 0x04, 0x03, 0x02, 0x00, 0xaa};
+    static const uint8_t precertificate[] = {
+        0x30, 0x66, 0x30, 0x59, 0xa0, 0x03, 0x02, 0x01, 0x02, 0x02, 0x01, 0x2a, 0x30, 0x05, 0x06, 0x03, 0x2a, 0x03, 0x04, 0x30, 0x00, 0x30, 0x1e, 0x17,
+        0x0d, 0x32, 0x36, 0x30, 0x31, 0x30, 0x31, 0x30, 0x30, 0x30, 0x30, 0x30, 0x30, 0x5a, 0x17, 0x0d, 0x32, 0x37, 0x30, 0x31, 0x30, 0x31, 0x30, 0x30,
+        0x30, 0x30, 0x30, 0x30, 0x5a, 0x30, 0x00, 0x30, 0x0b, 0x30, 0x05, 0x06, 0x03, 0x2a, 0x03, 0x04, 0x03, 0x02, 0x00, 0x61, 0xa3, 0x17, 0x30, 0x15,
+        0x30, 0x13, 0x06, 0x0a, 0x2b, 0x06, 0x01, 0x04, 0x01, 0xd6, 0x79, 0x02, 0x04, 0x03, 0x01, 0x01, 0xff, 0x04, 0x02, 0x05, 0x00, 0x30, 0x05, 0x06,
+        0x03, 0x2a, 0x03, 0x04, 0x03, 0x02, 0x00, 0xaa};
     /* RSAPublicKey (RFC 8017 A.1.1): 51 and 3 */
     static const uint8_t rsa_key[] = {0x30, 6, 2, 1, 0x33, 2, 1, 3};
     keep("", timestamps, sizeof timestamps);
+    keep("", issued, sizeof issued);
+    keep("", precertificate, sizeof precertificate);
     keep("", rsa_key, sizeof rsa_key);
     for (size_t at = 0; at < sizeof texts / sizeof *texts; at++)
         keep("", (const uint8_t *)texts[at], strlen(texts[at]));
@@ -866,6 +901,12 @@ static asker *new_asker(void)
     return made;
 }
 
+/* Whether a call accepts any octets: each has a hash. */
+static int accepts_any(const char *name)
+{
+    return strcmp(name, "x509_merkle_leaf_hash") == 0;
+}
+
 /* Each call has accepted some inputs and refused some, where it was asked about enough of them. */
 enum { ENOUGH = 10000 };
 
@@ -873,7 +914,7 @@ static long count_idle(const asker *by)
 {
     long idle = 0;
     for (int number = 0; number < CALL_COUNT; number++)
-        if (wanted >= ENOUGH && (by->accepted[number] == 0 || by->refused[number] == 0)) {
+        if (wanted >= ENOUGH && (by->accepted[number] == 0 || (by->refused[number] == 0) != accepts_any(CALLS[number].name))) {
             printf("wrong: %s: %ld accepted, %ld refused\n", CALLS[number].name, by->accepted[number], by->refused[number]);
             idle++;
         }

@@ -29,7 +29,7 @@ ED25519 = bytes.fromhex("300506032b6570")
 KEY, OTHER_KEY = (bytes.fromhex("302a300506032b6570032100") + bytes([octet]) * 32 for octet in (0, 1))
 
 MOMENT, SIGNATURE, ISSUER, CRITICAL, NOT_CA, EXTENSION, NAMES, CONSTRAINTS = 4, 5, 3, 7, 8, 11, 12, 13
-REPEATED_POLICY, POLICY, POLICY_MAPPING = 14, 15, 16
+REPEATED_POLICY, POLICY, POLICY_MAPPING, PURPOSE, USAGE, VERSION = 14, 15, 16, 17, 18, 19
 
 
 def name(text: str) -> ours.Name:
@@ -86,6 +86,23 @@ def description(certificate: ours.Certificate | None = None, policies: ours.Cert
     return ours.TrustAnchor(element(0xA2, element(0x30, KEY, element(0x04, b"\1"), controls)))
 
 
+def written(version: bytes, subject: str, *extensions: bytes) -> bytes:
+    """A certificate by hand under the root, with the other key: with that version, whole, or none, which is version 1."""
+    dates = element(0x30, element(0x17, b"300101000000Z"), element(0x17, b"300101000001Z"))
+    parts = version, b"\x02\x01\x01", ED25519, name("CN=Root").public_bytes(), dates, name(subject).public_bytes(), OTHER_KEY
+    listed = element(0xA3, element(0x30, *extensions)) if extensions else b""
+    return element(0x30, element(0x30, *parts, listed), ED25519, element(0x03, bytes(65)))
+
+
+OLD = written(b"", "O=CA,C=DE")
+SERVERS, CODE = ours.ExtendedKeyUsageOID.SERVER_AUTH, ours.ExtendedKeyUsageOID.CODE_SIGNING
+FOR_CODE = authority(ours.ExtendedKeyUsage([CODE]))
+
+
+def for_purposes(*purposes: ours.ObjectIdentifier) -> ours.Certificate:
+    return made("O=CA,C=DE", "CN=S", KEY, ours.ExtendedKeyUsage(purposes))
+
+
 def server(host: str) -> ours.Certificate:
     return made("O=ca,C=DE", "CN=S", KEY, ours.SubjectAlternativeName([ours.DNSName(host)]))
 
@@ -128,13 +145,62 @@ class Validation(unittest.TestCase):
         self.assertEqual(self.fault(ROOT, [ROOT, ROOT], NOW + 2 * SECOND, accepts), (0, MOMENT))
         self.assertEqual(self.fault(ROOT, [made("CN=Root", "CN=A", KEY), server("a")], NOW, accepts), (0, NOT_CA))
         self.assertEqual(self.fault(ROOT, [b"\x30\x00"], NOW, accepts), (0, 1))
-        # a minimum of 1 (RFC 5280 4.2.1.10), by hand
-        unusable = bytes.fromhex("300ba0093007a4023000800101")
-        authority = made("CN=Root", "O=CA,C=DE", OTHER_KEY, CA, ours.UnrecognizedExtension(ours.ExtensionOID.NAME_CONSTRAINTS, unusable))
-        self.assertEqual(self.fault(ROOT, [authority, server("a")], NOW, accepts), (0, CONSTRAINTS))
+        # a list without a subtree, and a minimum of 1 of directory names (RFC 5280 4.2.1.10), by hand
+        unusable, minimum = bytes.fromhex("3002a000"), bytes.fromhex("300ba0093007a4023000800101")
+        for data, fault in ((unusable, (0, CONSTRAINTS)), (minimum, (1, NAMES))):
+            constraints = ours.UnrecognizedExtension(ours.ExtensionOID.NAME_CONSTRAINTS, data)
+            authority = made("CN=Root", "O=CA,C=DE", OTHER_KEY, CA, constraints)
+            with self.subTest(data):
+                self.assertEqual(self.fault(ROOT, [authority, server("a")], NOW, accepts), fault)
         for data in (unusable, b"\x30\x01"):
             with self.subTest(data), self.assertRaises(ours.X509Error):
                 ours.validate_path(ROOT, [AUTHORITY, server("a")], NOW, accepts, name_constraints=data)
+
+    def test_purposes(self) -> None:
+        own = [ours.ObjectIdentifier(it) for it in ("1.2.3.4", "1.2.3.5")]
+        leaf, other, both = for_purposes(CODE), for_purposes(SERVERS), for_purposes(SERVERS, CODE, own[0])
+        # without a question a critical extension isn't processed
+        self.assertEqual(self.fault(ROOT, [AUTHORITY, leaf], NOW, accepts), (1, CRITICAL))
+        refused: list[tuple[list[Any], dict[str, Any], int]] = [
+            ([AUTHORITY, leaf], {"purposes": [SERVERS]}, 1),
+            ([FOR_CODE, other], {"purposes": [SERVERS]}, 0),
+            ([FOR_CODE, other], {"purposes": [SERVERS, CODE]}, 1),
+            ([FOR_CODE, other], {"purposes": [CODE], "is_chained": False}, 1),
+            ([AUTHORITY, leaf], {"purposes": own[:1]}, 1),
+        ]
+        for path, words, place in refused:
+            with self.subTest(path=path, words=words):
+                self.assertEqual(self.fault(ROOT, path, NOW, accepts, **words), (place, PURPOSE))
+        valid: list[tuple[list[Any], dict[str, Any]]] = [
+            ([AUTHORITY, leaf], {"purposes": iter([SERVERS, CODE])}),
+            ([FOR_CODE, other], {"purposes": [SERVERS], "is_chained": False}),
+            ([FOR_CODE, both], {"purposes": [SERVERS, CODE]}),
+            ([AUTHORITY, both], {"purposes": own[:1]}),
+            ([AUTHORITY, server("a")], {"purposes": [SERVERS]}),
+        ]
+        for path, words in valid:
+            with self.subTest(path=path, words=words):
+                self.assertEqual(len(ours.validate_path(ROOT, path, NOW, accepts, **words).certificates), 2)
+        for none in ([], own):
+            with self.subTest(none), self.assertRaises(ValueError):
+                ours.validate_path(ROOT, [AUTHORITY, leaf], NOW, accepts, purposes=none)
+
+    def test_key_usage(self) -> None:
+        leaf = made("CN=Root", "CN=S", OTHER_KEY, ours.KeyUsage(digital_signature=True))
+        self.assertEqual(len(ours.validate_path(ROOT, [leaf], NOW, accepts, key_usage=ours.KeyUsage(digital_signature=True)).certificates), 1)
+        self.assertEqual(self.fault(ROOT, [leaf], NOW, accepts, key_usage=ours.KeyUsage(key_agreement=True)), (0, USAGE))
+
+    def test_versions(self) -> None:
+        self.assertEqual(self.fault(ROOT, [OLD, server("a")], NOW, accepts), (0, NOT_CA))
+        self.assertEqual(len(ours.validate_path(ROOT, [OLD, server("a")], NOW, accepts, allows_version_1=True).certificates), 2)
+        for version in (b"", bytes.fromhex("a003020101")):
+            extended = written(version, "O=CA,C=DE", bytes.fromhex("300f0603551d130101ff040530030101ff"))
+            self.assertEqual(self.fault(ROOT, [extended, server("a")], NOW, accepts, allows_version_1=True), (0, VERSION))
+
+    def test_undecodable_before_unknown(self) -> None:
+        # a KeyUsage with zero bits at its end, and critical, by hand
+        leaf = written(bytes.fromhex("a003020102"), "CN=S", bytes.fromhex("300e0603551d0f0101ff040403020080"))
+        self.assertEqual(self.fault(ROOT, [leaf], NOW, accepts), (0, EXTENSION))
 
     def test_policies(self) -> None:
         mapping = ours.PolicyMappings([(POLICIES[0], POLICIES[2])])
@@ -275,6 +341,24 @@ class Validation(unittest.TestCase):
                 self.assertEqual(asked, wanted[: 2 if no_at is None else no_at + 1])
 
 
+    def test_parameters_of_the_key_above(self) -> None:
+        # keys of the algorithm 1.2.3.4, one with an INTEGER as its parameters (RFC 5280 6.1.4 (d) to (f))
+        plain, full = (element(0x30, element(0x30, bytes.fromhex("06032a0304"), it), bytes.fromhex("030100")) for it in (b"", b"\2\1\7"))
+        self.assertEqual(ours.working_key(full, plain), full)
+        self.assertEqual([ours.working_key(above, key) for above, key in ((plain, full), (KEY, plain), (full, KEY))], [full, plain, KEY])
+        with self.assertRaises(ours.X509Error):
+            ours.working_key(full, b"\5\0")
+        keys: list[bytes] = []
+
+        def verify(key: bytes, *_: bytes) -> bool:
+            keys.append(key)
+            return True
+
+        path = [made("CN=Root", "CN=A", plain, CA), made("CN=A", "CN=S", plain)]
+        found = ours.validate_path((name("CN=Root"), full), path, NOW, verify)
+        self.assertEqual((keys, found.public_key_bytes), ([full, full], full))
+
+
 class Arguments(unittest.TestCase):
     """Each argument of `validate_path`: other values that another answer comes of, and what is refused."""
 
@@ -289,8 +373,12 @@ class Arguments(unittest.TestCase):
         "require_explicit_policy": [(True, (1, POLICY))],
         "inhibit_policy_mapping": [(True, (1, POLICY))],
         "inhibit_any_policy": [(True, (0, POLICY))],
+        "purposes": [([SERVERS], (1, PURPOSE)), (None, (1, CRITICAL))],
+        "is_chained": [(True, (0, PURPOSE))],
+        "key_usage": [(ours.KeyUsage(key_agreement=True), (1, USAGE))],
+        "allows_version_1": [(False, (0, NOT_CA))],
     }
-    # paths on which a setting of policies tells
+    # paths on which a setting tells
     ASKED: dict[str, dict[str, Any]] = {
         "policies": {"path": [authority(under(*POLICIES)), made("O=CA,C=DE", "CN=S", KEY, under(POLICIES[0]))], "require_explicit_policy": True},
         "require_explicit_policy": {"path": [authority(under(*POLICIES)), server("a")]},
@@ -306,6 +394,10 @@ class Arguments(unittest.TestCase):
             "path": [authority(under(ours.CertificatePoliciesOID.ANY_POLICY)), made("O=CA,C=DE", "CN=S", KEY, under(POLICIES[0]))],
             "require_explicit_policy": True,
         },
+        "purposes": {"path": [AUTHORITY, for_purposes(CODE)], "purposes": [CODE]},
+        "is_chained": {"path": [FOR_CODE, for_purposes(SERVERS)], "purposes": [SERVERS], "is_chained": False},
+        "key_usage": {"path": [AUTHORITY, made("O=CA,C=DE", "CN=S", KEY, ours.KeyUsage(digital_signature=True))]},
+        "allows_version_1": {"path": [OLD, server("a")], "allows_version_1": True},
     }
     REFUSED: dict[str, list[tuple[Any, type[Exception]]]] = {
         "anchor": [
@@ -323,6 +415,10 @@ class Arguments(unittest.TestCase):
         "require_explicit_policy": [(1, TypeError), (None, TypeError)],
         "inhibit_policy_mapping": [(1, TypeError), (None, TypeError)],
         "inhibit_any_policy": [(1, TypeError), (None, TypeError)],
+        "purposes": [([], ValueError), (POLICIES, ValueError), (5, TypeError), (["1.2.3"], TypeError)],
+        "is_chained": [(1, TypeError), (None, TypeError)],
+        "key_usage": [(1, TypeError), (ours.KeyUsage, TypeError)],
+        "allows_version_1": [(1, TypeError), (None, TypeError)],
     }
 
     def test_each_has_a_row(self) -> None:

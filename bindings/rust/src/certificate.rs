@@ -344,6 +344,24 @@ impl<'a> CertificateRef<'a> {
         ffi::CERTIFICATE_JSON.text_of(self.der)
     }
 
+    /// The TBSCertificate that a log has of the certificate (RFC 6962 3.2): its own without the list of timestamps, all else byte for byte as it stands, but
+    /// for the lengths above it. It is what its timestamps are of, and the same bytes as [`logged_precertificate`](CertificateRef::logged_precertificate) of
+    /// its precertificate.
+    ///
+    /// # Errors
+    /// [`Error::Absent`] where it has no list of timestamps, [`Error::Repeated`] where it has two or more; [`Error::Memory`].
+    pub fn logged_part(&self) -> Result<Vec<u8>, Error> {
+        ffi::LOGGED_PART.of(self.der)
+    }
+
+    /// The TBSCertificate that a log has of the precertificate, which the authority itself signed (RFC 6962 3.2): its own without the poison.
+    ///
+    /// # Errors
+    /// [`Error::Absent`] where it has no poison, [`Error::Repeated`] where it has two or more; [`Error::Memory`].
+    pub fn logged_precertificate(&self) -> Result<Vec<u8>, Error> {
+        ffi::LOGGED_PRECERTIFICATE.of(self.der)
+    }
+
     /// The rules that it breaks beyond the grammar, those of RFC 5280 that `docs/RULES.md` of the sources lists, in their order; none where it breaks none.
     ///
     /// # Errors
@@ -555,6 +573,22 @@ impl Certificate {
     /// As of [`CertificateRef::to_json`].
     pub fn to_json(&self) -> Result<String, Error> {
         self.to_ref().to_json()
+    }
+
+    /// The TBSCertificate that a log has of the certificate.
+    ///
+    /// # Errors
+    /// As of [`CertificateRef::logged_part`].
+    pub fn logged_part(&self) -> Result<Vec<u8>, Error> {
+        self.to_ref().logged_part()
+    }
+
+    /// The TBSCertificate that a log has of the precertificate.
+    ///
+    /// # Errors
+    /// As of [`CertificateRef::logged_precertificate`].
+    pub fn logged_precertificate(&self) -> Result<Vec<u8>, Error> {
+        self.to_ref().logged_precertificate()
     }
 
     /// The rules that it breaks beyond the grammar.

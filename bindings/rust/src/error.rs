@@ -89,8 +89,11 @@ pub enum Error {
     /// The algorithm is another one than that in the signed part (RFC 5280 4.1.1.2, 5.1.1.2).
     Algorithm,
 
-    /// The description of a trust anchor has no name, so that no path can be under it.
+    /// What is trusted has no name, or an empty one, so that no path can be under it (RFC 5937 3.2).
     UnnamedAnchor,
+
+    /// The description of a trust anchor has an extension that is critical or limits paths, beside its constraints on paths (RFC 5914 2.6).
+    AnchorExtension,
 
     /// The certificate in the description of a trust anchor has another name, key or key identifier than that (RFC 5914 2.5).
     OtherCertificate,
@@ -116,6 +119,9 @@ impl Error {
             Error::NotInProfile(part) => part.text(),
             Error::Algorithm => "the signed part has another algorithm",
             Error::UnnamedAnchor => "the trust anchor has no name",
+            Error::AnchorExtension => {
+                "the trust anchor has an extension that would have to be followed"
+            }
             Error::OtherCertificate => "the trust anchor has a certificate of another name or key",
             Error::Unexpected => "the C library is of another version",
         }

@@ -245,10 +245,14 @@ pub(crate) struct PathFault {
 }
 
 #[repr(C)]
-#[derive(Clone, Copy, Debug, Default)]
+#[derive(Clone, Copy, Debug)]
 pub(crate) struct PathSettings {
     pub(crate) moment: u64,
     pub(crate) flags: u64,
+    pub(crate) key_usage: u64,
+    pub(crate) purposes: u64,
+    pub(crate) purpose_len: u64,
+    pub(crate) purpose: [u8; 64],
 }
 
 #[repr(C)]
@@ -447,6 +451,7 @@ type NextUnderCall<T> = unsafe extern "C" fn(u32, *const u8, usize, *mut usize, 
 #[rustfmt::skip]
 extern "C" {
     fn x509_reencode(name: *const u8, name_len: usize, profile: u32, input: *const u8, len: usize, out: *mut u8, room: usize, written: *mut usize) -> c_int;
+    fn x509_working_key(above: *const u8, above_len: usize, key: *const u8, key_len: usize, out: *mut u8, room: usize, written: *mut usize) -> c_int;
     fn x509_certificate_reencode(input: *const u8, len: usize, out: *mut u8, room: usize, written: *mut usize) -> c_int;
     fn x509_name_text(input: *const u8, len: usize, out: *mut u8, room: usize, written: *mut usize) -> c_int;
     fn x509_name_from_text(text: *const u8, len: usize, out: *mut u8, room: usize, written: *mut usize) -> c_int;
@@ -547,6 +552,49 @@ extern "C" {
     fn x509_finding_next(lines: *const u8, len: usize, at: *mut usize, found: *mut Finding) -> c_int;
     fn x509_timestamp_next(value: *const u8, len: usize, at: *mut usize, found: *mut Span) -> c_int;
     fn x509_timestamp_view(input: *const u8, len: usize, view: *mut Timestamp) -> c_int;
+    fn x509_timestamp_signed_data(
+        timestamp: *const u8,
+        timestamp_len: usize,
+        certificate: *const u8,
+        certificate_len: usize,
+        issuer: *const u8,
+        issuer_len: usize,
+        out: *mut u8,
+        room: usize,
+        written: *mut usize,
+    ) -> c_int;
+    fn x509_timestamp_signed_data_beside(
+        timestamp: *const u8,
+        timestamp_len: usize,
+        certificate: *const u8,
+        certificate_len: usize,
+        out: *mut u8,
+        room: usize,
+        written: *mut usize,
+    ) -> c_int;
+    fn x509_merkle_leaf_hash(entry: *const u8, entry_len: usize, out: *mut u8, room: usize, written: *mut usize) -> c_int;
+    fn x509_merkle_inclusion(
+        leaf_hash: *const u8,
+        leaf_hash_len: usize,
+        index: u64,
+        size: u64,
+        path: *const u8,
+        path_len: usize,
+        root: *const u8,
+        root_len: usize,
+    ) -> c_int;
+    fn x509_merkle_consistency(
+        old_size: u64,
+        new_size: u64,
+        old_root: *const u8,
+        old_root_len: usize,
+        new_root: *const u8,
+        new_root_len: usize,
+        proof: *const u8,
+        proof_len: usize,
+    ) -> c_int;
+    fn x509_logged_part(certificate: *const u8, certificate_len: usize, out: *mut u8, room: usize, written: *mut usize) -> c_int;
+    fn x509_logged_precertificate(precertificate: *const u8, precertificate_len: usize, out: *mut u8, room: usize, written: *mut usize) -> c_int;
     fn x509_version() -> u32;
 }
 
@@ -827,6 +875,9 @@ pub(crate) const CERTIFICATE_LINT: Fill = Fill::new(x509_certificate_lint);
 pub(crate) const CRL_LINT: Fill = Fill::new(x509_crl_lint);
 pub(crate) const REQUEST_LINT: Fill = Fill::new(x509_request_lint);
 pub(crate) const ANCHOR_LINT: Fill = Fill::new(x509_anchor_lint);
+pub(crate) const MERKLE_LEAF_HASH: Fill = Fill::new(x509_merkle_leaf_hash);
+pub(crate) const LOGGED_PART: Fill = Fill::new(x509_logged_part);
+pub(crate) const LOGGED_PRECERTIFICATE: Fill = Fill::new(x509_logged_precertificate);
 
 pub(crate) static EXTENSIONS: Walk<ExtensionEntry> = Walk(Next::Plain(x509_extensions_next));
 pub(crate) static GENERAL_NAMES: Walk<GeneralName> = Walk(Next::Plain(x509_general_names_next));
@@ -864,8 +915,66 @@ pub(crate) static RELATIVE_NAME: Walk<Attribute> = Walk(Next::Plain(x509_relativ
 pub(crate) static RELATIVE_NAME_UNDER_1: Walk<Attribute> =
     Walk(Next::Under(1, x509_relative_name_under_next));
 
+/// Whether an audit path leads from the hash of a leaf to a root.
+pub(crate) fn merkle_inclusion(
+    leaf_hash: &[u8],
+    index: u64,
+    size: u64,
+    path: &[u8],
+    root: &[u8],
+) -> Result<bool, Error> {
+    // SAFETY: the header lets the call read the slices, which are lent for it, and take any numbers.
+    let status =
+        unsafe { lent!(x509_merkle_inclusion: [leaf_hash], (index), (size), [path], [root]) };
+    verified(status)
+}
+
+/// Whether a consistency proof leads to both roots.
+pub(crate) fn merkle_consistency(
+    old_size: u64,
+    new_size: u64,
+    old_root: &[u8],
+    new_root: &[u8],
+    proof: &[u8],
+) -> Result<bool, Error> {
+    // SAFETY: as above.
+    let status = unsafe {
+        lent!(x509_merkle_consistency: (old_size), (new_size), [old_root], [new_root], [proof])
+    };
+    verified(status)
+}
+
+/// What a call says that verifies something, whose X509_FAILED means that it doesn't hold.
+fn verified(status: c_int) -> Result<bool, Error> {
+    match status {
+        FAILED => Ok(false),
+        status => accepted(status, true),
+    }
+}
+
+/// What the signature of a timestamp is over that stands in a certificate.
+pub(crate) fn timestamp_signed_data(
+    timestamp: &[u8],
+    certificate: &[u8],
+    issuer: &[u8],
+) -> Result<Vec<u8>, Error> {
+    filled!(x509_timestamp_signed_data: [timestamp], [certificate], [issuer])
+}
+
+/// What the signature of a timestamp is over that came beside a certificate.
+pub(crate) fn timestamp_signed_data_beside(
+    timestamp: &[u8],
+    certificate: &[u8],
+) -> Result<Vec<u8>, Error> {
+    filled!(x509_timestamp_signed_data_beside: [timestamp], [certificate])
+}
+
 pub(crate) fn reencode(kind: &str, profile: u32, data: &[u8]) -> Result<Vec<u8>, Error> {
     filled!(Error::UnknownType, x509_reencode: [kind], (profile), [data])
+}
+
+pub(crate) fn working_key(above: &[u8], key: &[u8]) -> Result<Vec<u8>, Error> {
+    filled!(x509_working_key: [above], [key])
 }
 
 pub(crate) fn time_text(moment: u64) -> Result<String, Error> {

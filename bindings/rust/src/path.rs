@@ -3,11 +3,11 @@ use crate::anchor::{AnchorKind, TrustAnchor};
 use crate::certificate::{CertificateRef, Signature};
 use crate::controls::PathControls;
 use crate::error::Error;
-use crate::extension::{CertificatePolicies, ExtensionValue};
+use crate::extension::{CertificatePolicies, ExtensionValue, KeyUsage};
 use crate::ffi;
 use crate::name::NameRef;
 use crate::numbered::numbered;
-use crate::oid::{extension, ObjectIdentifier};
+use crate::oid::{extension, purpose, ObjectIdentifier};
 use crate::time::seconds;
 use crate::writing::{elements, identifier, SEQUENCE};
 use std::fmt;
@@ -26,9 +26,10 @@ impl<F: Fn(&[u8], &Signature<'_>) -> bool> Verifier for F {
 }
 
 numbered! {
-    /// What is wrong with a certificate of a path. Of several faults of one certificate the first of this order is told, but for
-    /// [`Extension`](FaultReason::Extension), which comes behind [`Critical`](FaultReason::Critical). Those from [`Extension`](FaultReason::Extension) on are
-    /// told by [`validate_path`] alone.
+    /// What is wrong with a certificate of a path. Of several faults of one certificate the first of this order is told, but for four:
+    /// [`Version`](FaultReason::Version) comes behind [`Signature`](FaultReason::Signature), [`Extension`](FaultReason::Extension) behind
+    /// [`Repeated`](FaultReason::Repeated), and [`Usage`](FaultReason::Usage) and then [`Purpose`](FaultReason::Purpose) behind
+    /// [`PathLen`](FaultReason::PathLen). Those from [`Extension`](FaultReason::Extension) on are told by [`validate_path`] alone.
     #[derive(Clone, Copy, Debug, PartialEq, Eq, PartialOrd, Ord, Hash)]
     pub enum FaultReason {
         /// The bytes are those of no certificate.
@@ -44,9 +45,11 @@ numbered! {
         /// An extension identifier is there twice.
         Repeated = 6,
         /// A critical extension is none of BasicConstraints, KeyUsage, ExtendedKeyUsage and SubjectAltName, or one of these that can't be read. For
-        /// [`validate_path`] NameConstraints and those about policies are of these too.
+        /// [`validate_path`] NameConstraints and those about policies are of these too, ExtendedKeyUsage only where a purpose is asked for, and one that can't
+        /// be read is [`Extension`](FaultReason::Extension).
         Critical = 7,
-        /// Asked of all but the last: there is no BasicConstraints that can be read and says cA.
+        /// Asked of all but the last: there is no BasicConstraints that can be read and says cA. For [`validate_path`] the version has to be 3 too, or 1 where
+        /// those are allowed.
         NotCa = 8,
         /// Asked of all but the last: there is a KeyUsage without keyCertSign, or one that can't be read.
         KeyUsage = 9,
@@ -55,10 +58,10 @@ numbered! {
         /// An extension can't be read, critical or not, that is one of those or of those about policies: CertificatePolicies, PolicyMappings, PolicyConstraints
         /// and InhibitAnyPolicy.
         Extension = 11,
-        /// A name isn't within what the name constraints above permit, or is within what they exclude (RFC 5280 4.2.1.10).
+        /// A name isn't within what the name constraints above permit, or is within what they exclude (RFC 5280 4.2.1.10), or they have a subtree of its form
+        /// with a minimum other than 0, a maximum, or a base that is none.
         Names = 12,
-        /// Asked of all but the last: there is a NameConstraints that can't be used, with a minimum other than 0, a maximum, or an address or a mask that is
-        /// none.
+        /// Asked of all but the last: there is a NameConstraints that can't be used: a list of its subtrees is there and empty.
         Constraints = 13,
         /// A policy is there twice (RFC 5280 4.2.1.4).
         RepeatedPolicy = 14,
@@ -66,6 +69,12 @@ numbered! {
         Policy = 15,
         /// Asked of all but the last: any-policy is mapped, or something to it (RFC 5280 6.1.4 (a)).
         PolicyMapping = 16,
+        /// Each purpose that is asked for is one that this certificate doesn't allow, or one above (RFC 5280 4.2.1.12).
+        Purpose = 17,
+        /// Asked of the last: there is a KeyUsage without all that is asked for (RFC 5280 4.2.1.3).
+        Usage = 18,
+        /// There are extensions in another version than 3 (RFC 5280 4.1.2.9).
+        Version = 19,
     }
 }
 
@@ -88,6 +97,9 @@ impl FaultReason {
             FaultReason::RepeatedPolicy => "has a policy twice",
             FaultReason::Policy => "leaves no policy, and one is asked for",
             FaultReason::PolicyMapping => "maps any-policy",
+            FaultReason::Purpose => "is for another purpose",
+            FaultReason::Usage => "has a key for another use",
+            FaultReason::Version => "has extensions, and another version than 3",
         }
     }
 }
@@ -180,20 +192,34 @@ pub fn check_path<'a, B: AsRef<[u8]>>(
 ) -> Result<Vec<CertificateRef<'a>>, PathError> {
     let path = slices(path);
     let found = ffi::path_check(anchor.as_der(), &path, seconds(moment)?)?;
-    verified(anchor.subject_public_key_info(), path, found, verifier)
+    let key = anchor.subject_public_key_info();
+    let (certificates, _) = verified(key, path, found, verifier, |_above, key| Ok(key.to_vec()))?;
+    Ok(certificates)
+}
+
+/// The DER of a public key as it is used under the one above it (RFC 5280 6.1.4 (d) to (f)), each a SubjectPublicKeyInfo: where the parameters of its algorithm
+/// are left out or NULL, and the key above is of the same algorithm and has parameters, the key with these; else the key as it is. Down a path the key above is
+/// itself one as it is used. [`validate_path`] hands its verifier such keys.
+///
+/// # Errors
+/// [`Error::Malformed`] or [`Error::Overlength`] where one of them is none, or the key as it is used would be too long; [`Error::Memory`].
+pub fn working_key(above: &[u8], key: &[u8]) -> Result<Vec<u8>, Error> {
+    ffi::working_key(above, key)
 }
 
 fn slices<B: AsRef<[u8]>>(path: &[B]) -> Vec<&[u8]> {
     path.iter().map(AsRef::as_ref).collect()
 }
 
-/// The certificates of a path under a key, of which that is the first fault but those of signatures.
+/// The certificates of a path under a key, of which that is the first fault but those of signatures, and the last key; `below` says how a key is used under
+/// another.
 fn verified<'a>(
     key: &[u8],
     path: Vec<&'a [u8]>,
     found: Option<ffi::PathFault>,
     verifier: &impl Verifier,
-) -> Result<Vec<CertificateRef<'a>>, PathError> {
+    below: impl Fn(&[u8], &[u8]) -> Result<Vec<u8>, Error>,
+) -> Result<(Vec<CertificateRef<'a>>, Vec<u8>), PathError> {
     let found = match found {
         Some(fault) => Some(PathFault {
             place: fault.place,
@@ -202,7 +228,7 @@ fn verified<'a>(
         None => None,
     };
     let mut certificates: Vec<CertificateRef<'a>> = Vec::new();
-    let mut above = key;
+    let mut above = key.to_vec();
     for (place, der) in path.into_iter().enumerate() {
         let of_signature = PathFault {
             place,
@@ -212,15 +238,15 @@ fn verified<'a>(
             break;
         }
         let certificate = CertificateRef::from_der(der)?;
-        if !is_signed(above, &certificate, verifier)? {
+        if !is_signed(&above, &certificate, verifier)? {
             return Err(PathError::Fault(of_signature));
         }
-        above = certificate.subject_public_key_info();
+        above = below(&above, certificate.subject_public_key_info())?;
         certificates.push(certificate);
     }
     match found {
         Some(fault) => Err(PathError::Fault(fault)),
-        None => Ok(certificates),
+        None => Ok((certificates, above)),
     }
 }
 
@@ -277,6 +303,18 @@ impl<'a> Trusted<'a> {
     }
 }
 
+/// The DER of a name without RDNs.
+const EMPTY_NAME: &[u8] = &[0x30, 0x00];
+
+/// The extensions that limit paths, which the description of an anchor may not have beside its constraints on paths.
+const LIMITING: [ObjectIdentifier; 5] = [
+    extension::BASIC_CONSTRAINTS,
+    extension::NAME_CONSTRAINTS,
+    extension::CERTIFICATE_POLICIES,
+    extension::POLICY_CONSTRAINTS,
+    extension::INHIBIT_ANY_POLICY,
+];
+
 /// The extensions of an anchor by which it is trusted, and may not have twice (RFC 5937 2, RFC 5914 2.5).
 const OF_ANCHORS: [ObjectIdentifier; 3] = [
     extension::BASIC_CONSTRAINTS,
@@ -288,12 +326,21 @@ impl Trusted<'_> {
     /// Why it gives no trust, as the library has found: an extension stands there twice, or the description of an anchor has no name, or a certificate of
     /// another.
     fn fault(&self) -> Result<Error, Error> {
+        if self.name().map_or(true, |it| it.as_der() == EMPTY_NAME) {
+            return Ok(Error::UnnamedAnchor);
+        }
         let anchor = match self {
             Trusted::Anchor(anchor) => anchor,
             _ => return Ok(Error::Repeated),
         };
         if anchor.kind() != AnchorKind::Info {
             return Ok(Error::Repeated);
+        }
+        for it in anchor.extensions() {
+            let it = it?;
+            if it.critical() || LIMITING.contains(&it.oid()) {
+                return Ok(Error::AnchorExtension);
+            }
         }
         let controls = match anchor.path_controls() {
             Some(controls) => controls,
@@ -330,20 +377,36 @@ pub struct PathSettings {
     moment: SystemTime,
     name_constraints: Vec<u8>,
     policies: Vec<u8>,
+    purposes: Option<Vec<ObjectIdentifier>>,
+    key_usage: KeyUsage,
     flags: u64,
 }
 
 const EXPLICIT_POLICY: u64 = 1;
 const INHIBIT_POLICY_MAPPING: u64 = 2;
 const INHIBIT_ANY_POLICY: u64 = 4;
+const UNCHAINED: u64 = 8;
+const VERSION_1: u64 = 16;
+
+/// The purposes that settings have a bit for, in the order of these.
+const PURPOSES: [ObjectIdentifier; 6] = [
+    purpose::SERVER_AUTH,
+    purpose::CLIENT_AUTH,
+    purpose::CODE_SIGNING,
+    purpose::EMAIL_PROTECTION,
+    purpose::TIME_STAMPING,
+    purpose::OCSP_SIGNING,
+];
 
 impl PathSettings {
-    /// That it is valid at the moment, under any policy or none.
+    /// That it is valid at the moment, under any policy or none, and for no purpose.
     pub fn new(moment: SystemTime) -> PathSettings {
         PathSettings {
             moment,
             name_constraints: Vec::new(),
             policies: Vec::new(),
+            purposes: None,
+            key_usage: KeyUsage::default(),
             flags: 0,
         }
     }
@@ -381,6 +444,62 @@ impl PathSettings {
     pub fn inhibit_any_policy(&mut self, is_asked: bool) -> &mut PathSettings {
         self.flag(INHIBIT_ANY_POLICY, is_asked)
     }
+
+    /// That it is for one of these purposes, any of them (RFC 5280 4.2.1.12): one purpose has to be allowed by the ExtendedKeyUsage of all certificates that
+    /// have one. At most one of them is another than those of RFC 5280. Where none are asked for, a critical ExtendedKeyUsage isn't processed, so it is a fault.
+    pub fn purposes(&mut self, accepted: &[ObjectIdentifier]) -> &mut PathSettings {
+        self.purposes = Some(accepted.to_vec());
+        self
+    }
+
+    /// Whether purposes are asked of all certificates, as they are by [`new`](PathSettings::new), and not of the last one alone.
+    pub fn chain_purposes(&mut self, is_chained: bool) -> &mut PathSettings {
+        self.flag(UNCHAINED, !is_chained)
+    }
+
+    /// That the last certificate has these usages, where it has a KeyUsage (RFC 5280 4.2.1.3).
+    pub fn key_usage(&mut self, asked: KeyUsage) -> &mut PathSettings {
+        self.key_usage = asked;
+        self
+    }
+
+    /// Whether certificates of version 1 are authorities (RFC 5280 6.1.4 (k)), which the caller then knows of those given.
+    pub fn allow_version_1(&mut self, is_allowed: bool) -> &mut PathSettings {
+        self.flag(VERSION_1, is_allowed)
+    }
+
+    fn to_ffi(&self) -> Result<ffi::PathSettings, Error> {
+        let mut asked = ffi::PathSettings {
+            moment: seconds(self.moment)?,
+            flags: self.flags,
+            key_usage: self.key_usage.bits().into(),
+            purposes: 0,
+            purpose_len: 0,
+            purpose: [0; 64],
+        };
+        let purposes = match &self.purposes {
+            Some(purposes) => purposes,
+            None => return Ok(asked),
+        };
+        let mut own: Option<&ObjectIdentifier> = None;
+        for purpose in purposes {
+            match PURPOSES.iter().position(|known| known == purpose) {
+                Some(bit) => asked.purposes |= 1 << bit,
+                None if own.is_some_and(|other| other != purpose) => return Err(Error::Value),
+                None => own = Some(purpose),
+            }
+        }
+        if let Some(own) = own {
+            let octets = own.as_bytes();
+            let places = asked.purpose.get_mut(..octets.len());
+            places.ok_or(Error::Unexpected)?.copy_from_slice(octets);
+            asked.purpose_len = octets.len() as u64;
+        }
+        if purposes.is_empty() {
+            return Err(Error::Value);
+        }
+        Ok(asked)
+    }
 }
 
 /// What a valid path gives (RFC 5280 6.1.6).
@@ -388,6 +507,7 @@ impl PathSettings {
 pub struct Validated<'a> {
     certificates: Vec<CertificateRef<'a>>,
     last: CertificateRef<'a>,
+    key: Vec<u8>,
     policies: Vec<ObjectIdentifier>,
 }
 
@@ -400,6 +520,11 @@ impl<'a> Validated<'a> {
     /// The last certificate, of which the path says that the key is its subject's.
     pub fn certificate(&self) -> CertificateRef<'a> {
         self.last
+    }
+
+    /// The DER of the public key of that certificate, with the parameters that it has from the keys above ([`working_key`]).
+    pub fn subject_public_key_info(&self) -> &[u8] {
+        &self.key
     }
 
     /// The policies under which it is valid, of those that the caller accepts; [`ANY_POLICY`](crate::oid::policy::ANY_POLICY) may be one of them.
@@ -416,7 +541,8 @@ fn identifiers(der: &[u8]) -> Result<Vec<ObjectIdentifier>, Error> {
 
 /// What a path gives, where it is valid under what is trusted (RFC 5280 6.1), given by the DER of its certificates, topmost first. Beyond what [`check_path`]
 /// looks at names are compared as they match (RFC 5280 7.1), name constraints hold, those of what is trusted, of the settings and of each certificate above,
-/// policies are followed, and each extension of a type that is looked at is to be one that can be read. Revocation isn't looked at.
+/// policies are followed, and each extension of a type that is looked at is to be one that can be read. Whether the last certificate is that of a host or a
+/// mailbox isn't asked, and revocation isn't looked at: both are the caller's.
 ///
 /// ```
 /// use std::time::{Duration, UNIX_EPOCH};
@@ -435,12 +561,13 @@ fn identifiers(der: &[u8]) -> Result<Vec<ObjectIdentifier>, Error> {
 /// ```
 ///
 /// # Errors
-/// [`PathError::Fault`] and the verifier's turns as of [`check_path`].
+/// [`PathError::Fault`] and the verifier's turns as of [`check_path`]; it is handed keys as they are used ([`working_key`]).
 ///
-/// [`PathError::Refused`] with [`Error::Absent`] where the path is empty; with [`Error::Value`] where the moment is before 1970 or after 9999, and where name
-/// constraints of the settings or of what is trusted can't be used; with [`Error::Repeated`] where what is trusted has one of the extensions that are looked at
-/// twice, with [`Error::UnnamedAnchor`] where it has no name, and with [`Error::OtherCertificate`] where its certificate is another's; with
-/// [`Error::Malformed`] or [`Error::Overlength`] where these, the name constraints or the key are none; and with [`Error::Memory`].
+/// [`PathError::Refused`] with [`Error::Absent`] where the path is empty; with [`Error::Value`] where the moment is before 1970 or after 9999, where purposes
+/// are asked for and there are none, or several others than those of RFC 5280, and where name constraints of the settings or of what is trusted can't be used; with [`Error::Repeated`] where what is trusted has one of the extensions that are looked at
+/// twice, with [`Error::UnnamedAnchor`] where it has no name or an empty one, with [`Error::AnchorExtension`] where the description of an anchor has an
+/// extension that would have to be followed, and with [`Error::OtherCertificate`] where its certificate is another's; with [`Error::Malformed`] or
+/// [`Error::Overlength`] where these, the name constraints or the key are none; and with [`Error::Memory`].
 pub fn validate_path<'a, 'b, B: AsRef<[u8]>>(
     trusted: impl Into<Trusted<'b>>,
     path: &'a [B],
@@ -448,27 +575,26 @@ pub fn validate_path<'a, 'b, B: AsRef<[u8]>>(
     verifier: &impl Verifier,
 ) -> Result<Validated<'a>, PathError> {
     let (trusted, path) = (trusted.into(), slices(path));
-    let asked = ffi::PathSettings {
-        moment: seconds(settings.moment)?,
-        flags: settings.flags,
-    };
+    let asked = settings.to_ffi()?;
     let (constraints, accepted) = (&settings.name_constraints, &settings.policies);
     let judged = ffi::path_validate(trusted.bytes(), &path, constraints, accepted, asked);
     let judged = match judged {
         Err(error) if error == ffi::NO_TRUST => Err(trusted.fault()?),
         judged => judged,
     }?;
-    let certificates = verified(
+    let (certificates, key) = verified(
         trusted.key(),
         path,
         judged.as_ref().err().copied(),
         verifier,
+        working_key,
     )?;
     let last = *certificates.last().ok_or(Error::Unexpected)?;
     let policies = identifiers(&judged.map_err(|_| Error::Unexpected)?)?;
     Ok(Validated {
         certificates,
         last,
+        key,
         policies,
     })
 }

@@ -7,7 +7,9 @@ use crate::extension::{
 };
 use crate::ffi;
 use crate::name::NameRef;
-use crate::path::{validate_path, PathError, PathSettings, Trusted, Validated, Verifier};
+use crate::path::{
+    validate_path, working_key, PathError, PathSettings, Trusted, Validated, Verifier,
+};
 use crate::time::{moment, seconds};
 use std::cmp::Reverse;
 use std::collections::{HashMap, HashSet};
@@ -61,8 +63,9 @@ impl RevocationStatus {
     }
 }
 
-/// A CRL, and its signer: the certificate, the trust anchor, or the name and the key, under which it is to be verified. That the signer is one whose CRLs count
-/// is for the caller to know: it is the issuer of the certificate, or another whose path is valid, and [`may_sign_crls`] says so of it (RFC 5280 6.3.3 (f)).
+/// A CRL, and its signer: the certificate, the trust anchor, or the name and the key, under which it is to be verified. The key of a certificate is taken as it
+/// stands there: one that has its parameters from a key above is given as [`working_key`] says. That the signer is one whose CRLs count is for the caller to
+/// know: it is the issuer of the certificate, or another whose path is valid, and [`may_sign_crls`] says so of it (RFC 5280 6.3.3 (f)).
 #[derive(Clone, Copy, Debug)]
 pub struct SignedCrl<'a> {
     /// The CRL.
@@ -247,10 +250,12 @@ type Chain<'a> = Vec<CertificateRef<'a>>;
 const MOST_CHAINS: usize = 64;
 const LONGEST_CHAIN: usize = 8;
 
-/// A CRL by its place, with the signer whose key signed it, and the chains to the certificates of that signer's which have to be unrevoked.
+/// A CRL by its place, with the signer whose key signed it, that key as it is used, and the chains to the certificates of that signer's which have to be
+/// unrevoked.
 struct Given<'a> {
     place: usize,
     signer: Chain<'a>,
+    key: Vec<u8>,
     further: Vec<Chain<'a>>,
 }
 
@@ -347,7 +352,8 @@ impl<'a, V: Verifier> Judge<'_, 'a, V> {
     ) -> Result<RevocationStatus, Error> {
         let mut given = Vec::with_capacity(used.len());
         for it in used.iter().map(|at| &self.given[*at]) {
-            let crl = SignedCrl::new(self.crls[it.place], self.holder(&it.signer));
+            let signer = named(self.signer_name(&it.signer), &it.key);
+            let crl = SignedCrl::new(self.crls[it.place], signer);
             given.push((crl.signed()?, true));
         }
         match ask(certificate, &given, self.settings)? {
@@ -363,7 +369,8 @@ impl<'a, V: Verifier> Judge<'_, 'a, V> {
     /// The CRL is given, once for each signer whose key signed it.
     fn give(&mut self, place: usize) -> Result<(), Error> {
         for signer in self.signers(&self.crls[place])? {
-            let crl = SignedCrl::new(self.crls[place], self.holder(&signer));
+            let key = self.key(&signer)?;
+            let crl = SignedCrl::new(self.crls[place], named(self.signer_name(&signer), &key));
             if crl.is_signed(self.verifier)? {
                 let ends = 1..=signer.len();
                 let chains = ends.map(|end| signer[..end].to_vec());
@@ -371,6 +378,7 @@ impl<'a, V: Verifier> Judge<'_, 'a, V> {
                 self.given.push(Given {
                     place,
                     signer,
+                    key,
                     further,
                 });
             }
@@ -381,6 +389,19 @@ impl<'a, V: Verifier> Judge<'_, 'a, V> {
     /// Whose key it is: that of the last certificate; where there is none, that which is trusted.
     fn holder(&self, chain: &[CertificateRef<'a>]) -> Trusted<'a> {
         chain.last().map_or(self.trusted, |it| (*it).into())
+    }
+
+    fn signer_name(&self, chain: &[CertificateRef<'a>]) -> NameRef<'a> {
+        chain.last().map_or(self.name, |it| it.subject())
+    }
+
+    /// The key as it is used below what is trusted (RFC 5280 6.1.4 (d) to (f)).
+    fn key(&self, chain: &[CertificateRef<'a>]) -> Result<Vec<u8>, Error> {
+        let mut key = self.trusted.key().to_vec();
+        for it in chain {
+            key = working_key(&key, it.subject_public_key_info())?;
+        }
+        Ok(key)
     }
 
     /// Those whose name is the issuer of the CRL, and whose key has the identifier that it says.
@@ -448,6 +469,13 @@ impl<'a, V: Verifier> Judge<'_, 'a, V> {
             Err(PathError::Refused(Error::Memory)) => Err(Error::Memory),
             Err(_) => Ok(false),
         }
+    }
+}
+
+fn named<'s>(name: NameRef<'s>, key: &'s [u8]) -> Trusted<'s> {
+    Trusted::NameAndKey {
+        name,
+        subject_public_key_info: key,
     }
 }
 

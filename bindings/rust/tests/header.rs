@@ -57,6 +57,11 @@ fn declaration(c: &str) -> String {
         (false, _) => base,
     };
     let name = name.trim_start_matches('*');
+    // `uint8_t purpose[64]`
+    let (name, told) = match name.split_once('[') {
+        Some((name, count)) => (name, format!("[{told}; {count}")),
+        None => (name, told),
+    };
     format!("{}: {told}", if name == "in" { "input" } else { name })
 }
 
@@ -98,7 +103,8 @@ fn calls_are_those_of_the_header() {
     for call in declared.into_iter().chain(others) {
         let (name, arguments) = call.split_once('(').expect("arguments");
         let name = format!("x509_{name}");
-        let words = arguments.strip_suffix(')').expect("an end").split(',');
+        let words = arguments.strip_suffix(')').expect("an end").trim_end();
+        let words = words.trim_end_matches(',').split(',');
         let words = words.map(str::trim).collect::<Vec<_>>().join(", ");
         assert_eq!(calls.get(&name), Some(&words), "{name}");
     }

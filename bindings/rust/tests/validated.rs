@@ -3,12 +3,13 @@ use std::cell::RefCell;
 use std::convert::Infallible;
 use std::time::{Duration, SystemTime, UNIX_EPOCH};
 use x509_rattle::extension::{
-    BasicConstraints, CertificatePolicies, GeneralSubtree, NameConstraints, PolicyConstraints,
-    PolicyInformation, PolicyMapping, PolicyMappings, SubjectAltName, ToExtension,
+    BasicConstraints, CertificatePolicies, ExtendedKeyUsage, GeneralSubtree, KeyUsage,
+    NameConstraints, PolicyConstraints, PolicyInformation, PolicyMapping, PolicyMappings,
+    SubjectAltName, ToExtension,
 };
 use x509_rattle::{
-    check_path, oid, validate_path, Certificate, CertificateBuilder, CertificateRef, Error,
-    FaultReason, GeneralName, Name, ObjectIdentifier, PathError, PathFault, PathSettings,
+    check_path, oid, validate_path, working_key, Certificate, CertificateBuilder, CertificateRef,
+    Error, FaultReason, GeneralName, Name, ObjectIdentifier, PathError, PathFault, PathSettings,
     SerialNumber, Signature, Signer, TrustAnchor, Trusted, Validity,
 };
 
@@ -177,19 +178,33 @@ fn names_match_and_constraints_hold() {
 fn constraints_and_extensions_that_cannot_be_followed() {
     let settings = PathSettings::new(at(MOMENT));
     let root = certificate("CN=Root", "CN=Root", KEY, &[&is_ca]);
-    // a minimum of 1 (RFC 5280 4.2.1.10)
-    let der = b"\x30\x0b\xa0\x09\x30\x07\xa4\x02\x30\x00\x80\x01\x01";
-    let unusable = |builder: &mut CertificateBuilder| {
-        let oid = oid::extension::NAME_CONSTRAINTS;
-        builder
-            .add_extension_der(oid, true, der)
-            .expect("an extension");
+    let constrained = |der: &'static [u8]| {
+        move |builder: &mut CertificateBuilder| {
+            let oid = oid::extension::NAME_CONSTRAINTS;
+            builder
+                .add_extension_der(oid, true, der)
+                .expect("an extension");
+        }
     };
-    let authority = certificate("CN=Root", "CN=CA", OTHER_KEY, &[&is_ca, &unusable]);
+    // a list without a subtree (RFC 5280 4.2.1.10)
+    let der = b"\x30\x02\xa0\x00";
+    let authority = certificate("CN=Root", "CN=CA", OTHER_KEY, &[&is_ca, &constrained(der)]);
     let server = certificate("CN=CA", "CN=S", KEY, &[]);
     assert_eq!(
         validate(&root, &[&authority, &server], &settings),
         Err(fault(0, FaultReason::Constraints))
+    );
+    // a minimum of 1, of directory names
+    let minimum = b"\x30\x0b\xa0\x09\x30\x07\xa4\x02\x30\x00\x80\x01\x01";
+    let authority = certificate(
+        "CN=Root",
+        "CN=CA",
+        OTHER_KEY,
+        &[&is_ca, &constrained(minimum)],
+    );
+    assert_eq!(
+        validate(&root, &[&authority, &server], &settings),
+        Err(fault(1, FaultReason::Names))
     );
     let mut asked = settings.clone();
     asked.name_constraints(der);
@@ -431,4 +446,78 @@ fn each_signature_is_for_the_key_above() {
             [KEY, OTHER_KEY].map(<[u8]>::to_vec)[..asked]
         );
     }
+}
+
+fn purposes(of: &'static [ObjectIdentifier]) -> impl Fn(&mut CertificateBuilder) {
+    move |builder| {
+        let usage = ExtendedKeyUsage(of.to_vec());
+        add(builder, oid::extension::EXTENDED_KEY_USAGE, &usage);
+    }
+}
+
+const SERVERS: ObjectIdentifier = oid::purpose::SERVER_AUTH;
+const CODE: ObjectIdentifier = oid::purpose::CODE_SIGNING;
+
+#[test]
+fn a_purpose_holds_along_the_path() {
+    let root = certificate("CN=Root", "CN=Root", KEY, &[&is_ca]);
+    let plain = certificate("CN=Root", "CN=A", OTHER_KEY, &[&is_ca]);
+    let for_code = certificate("CN=Root", "CN=A", OTHER_KEY, &[&is_ca, &purposes(&[CODE])]);
+    let leaf = |of| certificate("CN=A", "CN=S", KEY, &[&purposes(of)]);
+    let (code, server, both) = (leaf(&[CODE]), leaf(&[SERVERS]), leaf(&[SERVERS, CODE]));
+    let new = || PathSettings::new(at(MOMENT));
+    // without a question a critical extension isn't processed
+    let unasked = validate(&root, &[&plain, &code], &new());
+    assert_eq!(unasked, Err(fault(1, FaultReason::Critical)));
+    let asked = |path: &[&Certificate], of: &[ObjectIdentifier], is_chained| {
+        validate(&root, path, new().purposes(of).chain_purposes(is_chained))
+    };
+    let other = |place| Err(fault(place, FaultReason::Purpose));
+    assert_eq!(asked(&[&plain, &code], &[SERVERS], true), other(1));
+    assert_eq!(asked(&[&plain, &code], &[SERVERS, CODE], true), Ok(2));
+    assert_eq!(asked(&[&for_code, &server], &[SERVERS], true), other(0));
+    assert_eq!(
+        asked(&[&for_code, &server], &[SERVERS, CODE], true),
+        other(1)
+    );
+    assert_eq!(asked(&[&for_code, &server], &[SERVERS], false), Ok(2));
+    assert_eq!(asked(&[&for_code, &both], &[SERVERS, CODE], true), Ok(2));
+    // one of the caller's own, and several
+    let own: Vec<ObjectIdentifier> = ["1.2.3.4", "1.2.3.5"]
+        .map(|it| it.parse().expect("an identifier"))
+        .to_vec();
+    assert_eq!(asked(&[&plain, &both], &own[..1], true), other(1));
+    assert_eq!(asked(&[&plain, &both], &[own[0], SERVERS], true), Ok(2));
+    for none in [&own[..], &[]] {
+        let refused = asked(&[&plain, &both], none, true);
+        assert_eq!(refused, Err(PathError::Refused(Error::Value)));
+    }
+}
+
+#[test]
+fn the_last_key_has_a_use() {
+    let root = certificate("CN=Root", "CN=Root", KEY, &[&is_ca]);
+    let signing = |builder: &mut CertificateBuilder| {
+        let usage = KeyUsage::DIGITAL_SIGNATURE;
+        add(builder, oid::extension::KEY_USAGE, &usage);
+    };
+    let leaf = certificate("CN=Root", "CN=S", OTHER_KEY, &[&signing]);
+    let asked = |usage| {
+        let mut settings = PathSettings::new(at(MOMENT));
+        validate(&root, &[&leaf], settings.key_usage(usage))
+    };
+    assert_eq!(asked(KeyUsage::DIGITAL_SIGNATURE), Ok(1));
+    let both = KeyUsage::DIGITAL_SIGNATURE | KeyUsage::KEY_AGREEMENT;
+    assert_eq!(asked(both), Err(fault(0, FaultReason::Usage)));
+}
+
+/// Keys of the algorithm 1.2.3.4, one with an INTEGER as its parameters (RFC 5280 6.1.4 (d) to (f)).
+#[test]
+fn keys_have_parameters_of_those_above() {
+    let plain = b"\x30\x0A\x30\x05\x06\x03\x2A\x03\x04\x03\x01\x00";
+    let full = b"\x30\x0D\x30\x08\x06\x03\x2A\x03\x04\x02\x01\x07\x03\x01\x00";
+    assert_eq!(working_key(full, plain).unwrap(), full);
+    assert_eq!(working_key(plain, full).unwrap(), full);
+    assert_eq!(working_key(plain, plain).unwrap(), plain);
+    assert_eq!(working_key(full, b"\x05\x00"), Err(Error::Malformed));
 }

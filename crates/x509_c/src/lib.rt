@@ -10,6 +10,7 @@ mod document;
 mod key;
 mod lint;
 mod list;
+mod log;
 mod name;
 mod name_values;
 mod party;

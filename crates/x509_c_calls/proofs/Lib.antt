@@ -12,6 +12,7 @@ pub mod Wholes
 pub mod Each
 pub mod BuildParts
 pub mod Profiled
+pub mod Purposes
 pub mod Decimals
 pub mod FirstAttributes
 pub mod BuildEntries
@@ -47,5 +48,7 @@ pub mod Strings
 pub mod RsaKeys
 pub mod Moments
 pub mod PolicyOctets
+pub mod PolicyOids
 pub mod RevocationCrls
 pub mod FindingPlaces
+pub mod MerkleHashes

@@ -25,6 +25,8 @@ pub mod ProfileParts
 pub mod ProfileInputs
 pub mod Status
 pub mod Built
+pub mod Logs
+pub mod Trees
 pub mod Calls
 pub mod Place
 pub mod SignedPlace

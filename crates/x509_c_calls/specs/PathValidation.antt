@@ -1,7 +1,7 @@
 -- What a call leaves that validates a path of certificates apart from their signatures (RFC 5280 6.1).
-use Rattle.std.specs.Int.{to_le_bytes, w64}
-use Rattle.std.specs.List.{All}
-use Rattle.std.specs.Prelude.{◌≡◌, ◌≢◌, ◌<◌, ◌≤◌, ◌+◌, ◌*◌, ◌^◌, ◌⊎◌, ℕ, Bool, false, List, [], ◌∷◌, ◌++◌, length, take, Option, Some, None}
+use Rattle.std.specs.Int.{from_le_bytes, to_le_bytes, w64}
+use Rattle.std.specs.List.{All, list_all}
+use Rattle.std.specs.Prelude.{◌≡◌, ◌≢◌, ◌==◌, ◌<◌, ◌≤◌, ◌+◌, ◌*◌, ◌/◌, ◌%◌, ◌^◌, ◌⊎◌, ℕ, Bool, false, true, cond, not, List, [], ◌∷◌, ◌++◌, drop, length, slice_index, take, Option, Some, None}
 use Rattle.x509_base.specs.CivilTime.{CivilTime, IsDateTime, last_date_time, unix_seconds}
 use Rattle.x509_base.specs.SubjectPublicKeyInfo.{subject_public_key_info}
 use Rattle.x509_base.specs.declared.profile.Rfc5280.{Rfc5280}
@@ -12,6 +12,7 @@ use Rattle.x509_c_calls.specs.Status.{IsPut}
 use Rattle.x509_c_calls.specs.View.{behind_key, behind_subject}
 use Rattle.x509_c_calls.specs.declared.path.answer.PathAnswer.{PathAnswer}
 use Rattle.x509_c_calls.specs.declared.path.question.PathQuestion.{PathQuestion}
+use Rattle.x509_c_calls.specs.declared.path.settings.AskedSettings.{AskedSettings}
 use Rattle.x509_c_calls.specs.declared.status.status.Status.{Status}
 use Rattle.x509_c_calls.specs.declared.status.status.Status.TheVariants as statuses
 use Rattle.x509_cert.specs.Certificate.{rfc5280_certificate}
@@ -23,19 +24,21 @@ use Rattle.x509_der.specs.List.{joined}
 use Rattle.x509_der.specs.declared.error.ErrorKind.{ErrorKind}
 use Rattle.x509_der.specs.declared.error.ErrorKind.TheVariants as kinds
 use Rattle.x509_ext.specs.CertificatePolicies.{certificate_policies}
+use Rattle.x509_ext.specs.Identifiers.{id_pkix}
 use Rattle.x509_ext.specs.NameConstraints.{name_constraints}
 use Rattle.x509_ext.specs.declared.pkix.certificate_policies.CertificatePolicies.{CertificatePolicies}
 use Rattle.x509_ext.specs.declared.pkix.name_constraints.NameConstraints.{NameConstraints}
 use Rattle.x509_name.specs.Names.{name}
 use Rattle.x509_path.specs.Certificates.{Certificate, accept_all}
-use Rattle.x509_validation.specs.Inputs.{Inputs, Trust}
+use Rattle.x509_validation.specs.Inputs.{Inputs, Trust, uses_of}
+use Rattle.x509_validation.specs.declared.settings.PathSettings.{PathSettings}
 use Rattle.x509_validation.specs.Says.{identifiers}
 use Rattle.x509_validation.specs.Trusts as trusts
 use Rattle.x509_validation.specs.Trusts.{IsTrustOf, IsTrustOfAnchor}
 use Rattle.x509_validation.specs.Validation.{AreUnusable, IsFirstFault, IsUnder, PathIsValid}
 use Rattle.x509_path.specs.declared.anchor.Anchor.{Anchor}
 use Rattle.x509_validation.specs.declared.validation_fault.ValidationReason.{ValidationReason}
-use Rattle.x509_validation.specs.declared.validation_fault.ValidationReason.TheVariants.{Decode, Algorithm, Issuer, Moment, Signature, Repeated, Critical, Extension, NotCa, KeyUsage, PathLen, Names, Constraints, RepeatedPolicy, Policy as NoPolicy, PolicyMapping}
+use Rattle.x509_validation.specs.declared.validation_fault.ValidationReason.TheVariants.{Decode, Algorithm, Issuer, Moment, Signature, Repeated, Critical, Extension, NotCa, KeyUsage, PathLen, Names, Constraints, RepeatedPolicy, Policy as NoPolicy, PolicyMapping, Version, Usage, Purpose}
 use Rattle.x509_policy.specs.Values.{Policy, Settings, any_policy}
 use Rattle.x509_types.specs.Reencoding.{IsRefused}
 
@@ -57,6 +60,9 @@ validation_code Constraints = 13
 validation_code RepeatedPolicy = 14
 validation_code NoPolicy = 15
 validation_code PolicyMapping = 16
+validation_code Purpose = 17
+validation_code Usage = 18
+validation_code Version = 19
 
 -- ---- what is asked
 
@@ -68,22 +74,97 @@ pub record AreSettings (octets : List ℕ) (seconds flags : ℕ) : Type 0 where
   pub seconds_fit : seconds < 2 ^ 64
   pub flags_fit : flags < 2 ^ 64
 
--- a bit for each of the flags about policies
-abbrev pub flags_of : Bool → Bool → Bool → ℕ
-flags_of explicit no_mapping no_any = flag explicit + (2 * flag no_mapping + 4 * flag no_any)
+-- the number of eight octets from a place on, the lowest first; those that aren't there are zeros
+abbrev pub number_in : List ℕ → ℕ → ℕ
+number_in octets place =
+    from_le_bytes w64 (slice_index octets place ∷ slice_index octets (place + 1) ∷ slice_index octets (place + 2) ∷ slice_index octets (place + 3)
+    ∷ slice_index octets (place + 4) ∷ slice_index octets (place + 5) ∷ slice_index octets (place + 6) ∷ slice_index octets (place + 7) ∷ [])
 
--- the moment of the settings, and what they ask for of policies
-pub record HasSettings (octets : List ℕ) (moment : CivilTime) (explicit no_mapping no_any : Bool) : Type 0 where
-  pub seconds : ℕ
-  pub settings : AreSettings octets seconds (flags_of explicit no_mapping no_any)
-  pub real : IsDateTime moment
-  pub at : unix_seconds moment ≡ seconds
+-- a number for each: a time in seconds, flags, the bits of a KeyUsage, known purposes, and how many octets another purpose has, which follow
+abbrev pub seconds_in : List ℕ → ℕ
+seconds_in octets = number_in octets 0
 
--- they are no settings, have another flag, or are those of a moment after the year 9999
+abbrev pub flags_in : List ℕ → ℕ
+flags_in octets = number_in octets 8
+
+abbrev pub usage_in : List ℕ → ℕ
+usage_in octets = number_in octets 16
+
+abbrev pub purposes_in : List ℕ → ℕ
+purposes_in octets = number_in octets 24
+
+abbrev pub own_len_in : List ℕ → ℕ
+own_len_in octets = number_in octets 32
+
+abbrev pub own_purpose_in : List ℕ → List ℕ
+own_purpose_in octets = take (own_len_in octets) (drop 40 octets)
+
+-- the first two numbers are there, and behind 64 places for octets of a purpose stand zeros
+pub record AreWhole (octets : List ℕ) : Type 0 where
+  pub enough : 16 ≤ length octets
+  pub zeros : list_all (λ octet. octet == 0) (drop 104 octets) ≡ true
+
+-- a bit for each of the flags
+abbrev pub flags_of : AskedSettings → ℕ
+flags_of asked =
+    flag asked.explicit_policy + (2 * flag asked.inhibit_policy_mapping + (4 * flag asked.inhibit_any_policy
+    + (8 * flag asked.is_unchained + 16 * flag asked.allows_version_1)))
+
+-- what the settings ask for, apart from another purpose
+pub record HasSettings (octets : List ℕ) (asked : AskedSettings) : Type 0 where
+  pub whole : AreWhole octets
+  pub real : IsDateTime asked.moment
+  pub at : unix_seconds asked.moment ≡ seconds_in octets
+  pub flags : flags_of asked ≡ flags_in octets
+  pub usage : asked.key_usage.0.0 ≡ usage_in octets
+  pub purposes : asked.purposes ≡ purposes_in octets
+
+-- another purpose is longer than its places, or isn't there
+abbrev pub LacksOwnPurpose : List ℕ → Type 0
+LacksOwnPurpose octets = (64 < own_len_in octets) ⊎ ((0 < own_len_in octets) × (length octets < 40 + own_len_in octets))
+
+-- they are no settings, have another flag, bit or purpose, or are those of a moment after the year 9999
 abbrev pub HasNoSettings : List ℕ → Type 0
 HasNoSettings octets =
-    ((seconds flags : ℕ) → AreSettings octets seconds flags → ⊥)
-    ⊎ ((seconds : ℕ) × (flags : ℕ) × AreSettings octets seconds flags × ((8 ≤ flags) ⊎ (unix_seconds last_date_time < seconds)))
+    (AreWhole octets → ⊥)
+    ⊎ ((unix_seconds last_date_time < seconds_in octets)
+    ⊎ ((32 ≤ flags_in octets) ⊎ ((512 ≤ usage_in octets) ⊎ ((64 ≤ purposes_in octets) ⊎ LacksOwnPurpose octets))))
+
+-- serverAuth, clientAuth, codeSigning, emailProtection, timeStamping and OCSPSigning (4.2.1.12)
+abbrev pub known_purposes : List (List ℕ)
+known_purposes = id_pkix 3 1 ∷ id_pkix 3 2 ∷ id_pkix 3 3 ∷ id_pkix 3 4 ∷ id_pkix 3 8 ∷ id_pkix 3 9 ∷ []
+
+-- those of which the number has the bit, in the order of the bits
+abbrev pub named_purposes : ℕ → List (List ℕ) → List (List ℕ)
+named_purposes number [] = []
+named_purposes number (purpose ∷ purposes) = cond (number % 2 == 1) (purpose ∷ named_purposes (number / 2) purposes) (named_purposes (number / 2) purposes)
+
+abbrev pub own_purposes : List ℕ → List (List ℕ)
+own_purposes [] = []
+own_purposes (octet ∷ octets) = (octet ∷ octets) ∷ []
+
+-- no purposes ask for none
+abbrev pub unless_none : List (List ℕ) → Option (List (List ℕ))
+unless_none [] = None
+unless_none (purpose ∷ purposes) = Some (purpose ∷ purposes)
+
+abbrev pub all_purposes : AskedSettings → List ℕ → List (List ℕ)
+all_purposes asked own = named_purposes asked.purposes known_purposes ++ own_purposes own
+
+-- the settings as those of a path, where nothing is lent
+abbrev pub bare_settings : AskedSettings → PathSettings
+bare_settings asked = record {
+  moment = asked.moment;
+  name_constraints = None;
+  user_initial_policy_set = None;
+  initial_policy_mapping_inhibit = asked.inhibit_policy_mapping;
+  initial_explicit_policy = asked.explicit_policy;
+  initial_any_policy_inhibit = asked.inhibit_any_policy;
+  purposes = None;
+  is_chained = not asked.is_unchained;
+  key_usage = asked.key_usage;
+  allows_version_1 = asked.allows_version_1;
+}
 
 -- no octets are no constraints
 abbrev pub AreConstraints : List ℕ → Option NameConstraints → Type 0
@@ -100,19 +181,27 @@ abbrev pub set_of : Option CertificatePolicies → List Policy
 set_of None = any_policy ∷ []
 set_of (Some policies) = identifiers policies
 
--- the policies and the settings of the question are those (RFC 5280 6.1.1 (c), (e), (f), (g))
-pub record AsksOfPolicies (question : PathQuestion) (moment : CivilTime) (asked : Settings) : Type 0 where
-  pub settings :
-      HasSettings question.settings.now moment asked.initial_explicit_policy asked.initial_policy_mapping_inhibit asked.initial_any_policy_inhibit
-  pub named : Option CertificatePolicies
-  pub are_named : AreNamed question.policies.now named
-  pub policies : asked.user_initial_policy_set ≡ set_of named
+-- what the settings and the policies of the question ask for (RFC 5280 6.1.1 (c), (e), (f), (g))
+abbrev pub policies_asked : AskedSettings → Option CertificatePolicies → Settings
+policies_asked asked named = record {
+  user_initial_policy_set = set_of named;
+  initial_policy_mapping_inhibit = asked.inhibit_policy_mapping;
+  initial_explicit_policy = asked.explicit_policy;
+  initial_any_policy_inhibit = asked.inhibit_any_policy;
+}
 
 -- what the question asks of a path under what is trusted
 pub record Asks (question : PathQuestion) (trusted : Trust) (inputs : Inputs) (path : List (List ℕ)) : Type 0 where
   pub trust : inputs.trust ≡ trusted
   pub constraints : AreConstraints question.name_constraints.now inputs.constraints
-  pub policies : AsksOfPolicies question inputs.moment inputs.asked
+  pub settings : AskedSettings
+  pub has_settings : HasSettings question.settings.now settings
+  pub moment : inputs.moment ≡ settings.moment
+  pub named : Option CertificatePolicies
+  pub are_named : AreNamed question.policies.now named
+  pub policies : inputs.asked ≡ policies_asked settings named
+  pub purposes : inputs.purposes ≡ unless_none (all_purposes settings (own_purpose_in question.settings.now))
+  pub uses : inputs.uses ≡ uses_of (bare_settings settings)
   pub cut : AreCut question.path.now question.lens.now path
 
 -- there are octets, and they are refused as a value of the form
@@ -195,11 +284,12 @@ Validates constraints policies question trust was is status =
 
 -- ---- what is trusted
 
--- the certificate's bytes are refused, or its extensions say nothing that can be followed
+-- the certificate's bytes are refused, or it has no name, or its extensions say nothing that can be followed
 abbrev pub IsUntrusted : (ErrorKind → Type 0) → List ℕ → ErrorKind → Type 0
 IsUntrusted refuses anchor e =
     IsRefused rfc5280_certificate refuses anchor e
-    ⊎ ((c : Certificate) × Spells rfc5280_certificate c anchor × ((trust : Trust) → IsTrustOf c.tbs_certificate trust → ⊥))
+    ⊎ ((c : Certificate) × Spells rfc5280_certificate c anchor × ((trust : Trust) → IsTrustOf c.tbs_certificate trust → ⊥)
+    × trusts.RefusesSigned c.tbs_certificate e)
 
 -- what a call leaves that is asked it under the certificate of an anchor
 unfoldable pub ValidatesUnderCertificate :

@@ -3,5 +3,6 @@
 mod timestamp;
 mod walk;
 
+pub(crate) use timestamp::refusal_of;
 pub use timestamp::{TimestampView, timestamp_view};
 pub use walk::timestamp_next;

@@ -30,6 +30,8 @@ mod paths;
 #[cfg(test)]
 mod program;
 #[cfg(test)]
+mod purposes;
+#[cfg(test)]
 mod requests;
 #[cfg(test)]
 mod slices;

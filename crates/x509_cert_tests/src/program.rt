@@ -51,7 +51,7 @@ fn first_wrong(alloc: Global, runs: &[Run]) -> Result<Option<usize>, AllocError>
 }
 
 const USAGE: &[u8] =
-    b"usage: x509_tool reencode TYPE [rfc5280|raw] | name | encode-name | path MOMENT\n";
+    b"usage: x509_tool reencode TYPE [rfc5280|raw] | name | encode-name\n       x509_tool path [--any-signature] MOMENT\n";
 
 /// A validity from 2002 on, once as RFC 5280 doesn't spell it (4.1.2.5) and once as it does.
 const LONG: &[u8] = b"3020180F32303032303130313132303130305A170D3330313233313038333030305A\n";
@@ -146,6 +146,93 @@ const COMMANDS: &[Run] = &[
 #[test]
 fn commands(rt: HostRuntime) -> Result<(), Fail> {
     assert_eq!(rt; first_wrong(rt.alloc(), COMMANDS)?, None);
+    Ok(())
+}
+
+const PATH_ANY: &[&[u8]] = &[
+    b"x509_tool",
+    b"path",
+    b"--any-signature",
+    b"2020-01-01T00:00:00Z",
+];
+
+const PATH_OTHER: &[&[u8]] = &[
+    b"x509_tool",
+    b"path",
+    b"--signature",
+    b"2020-01-01T00:00:00Z",
+];
+
+/// The certificates of `UNSIGNED` in PEM.
+const PEM: &[u8] = b"-----BEGIN CERTIFICATE-----\n\
+      MEYwOgIBATAFBgMqAwQwADAeFw0xMDAxMDEwODMwMDBaFw0zMDEyMzEwODMwMDBa\n\
+      MAAwCjAFBgMqAwQDAQAwBQYDKgMEAwEA\n\
+      -----END CERTIFICATE-----\n\
+      -----BEGIN CERTIFICATE-----\n\
+      MEYwOgIBATAFBgMqAwQwADAeFw0xMDAxMDEwODMwMDBaFw0zMDEyMzEwODMwMDBa\n\
+      MAAwCjAFBgMqAwQDAQAwBQYDKgMEAwEA\n\
+      -----END CERTIFICATE-----\n";
+
+/// The same in lines that end otherwise, with white space at their ends, and with lines around that say nothing.
+const PEM_IN_OTHER_LINES: &[u8] = b"an authority\r\n\r\n-----BEGIN X----- \t\r\n\r\n\
+      MEYwOgIBATAFBgMqAwQwADAeFw0xMDAxMDEwODMwMDBaFw0zMDEyMzEwODMwMDBa \r\n\
+      MAAwCjAFBgMqAwQDAQAwBQYDKgMEAwEA\r\n\
+      -----END X----- \r\n\
+      a server:\r-----BEGIN Y-----\r\
+      MEYwOgIBATAFBgMqAwQwADAeFw0xMDAxMDEwODMwMDBaFw0zMDEyMzEwODMwMDBaMAAwCjAFBgMqAwQDAQAwBQYDKgMEAwEA\r\
+      -----END Y-----\rits end";
+
+/// PEM of which the text has no end.
+const PEM_WITHOUT_END: &[u8] = b"-----BEGIN CERTIFICATE-----\n";
+
+/// PEM of three objects, of which the second ends with another label.
+const PEM_WITH_ANOTHER_LABEL: &[u8] = b"-----BEGIN A-----\nMAA=\n-----END A-----\n\
+      -----BEGIN A-----\nMAA=\n-----END B-----\n\
+      -----BEGIN A-----\nMAA=\n-----END A-----\n";
+
+/// PEM of three objects, of which the second isn't base64 (RFC 4648 4).
+const PEM_OF_SPOILT_BASE64: &[u8] = b"-----BEGIN A-----\nMAA=\n-----END A-----\n\
+      -----BEGIN A-----\nM AA=\n-----END A-----\n\
+      -----BEGIN A-----\nMAA=\n-----END A-----\n";
+
+/// PEM behind a control character, as DER may hold it.
+const PEM_IN_DER: &[u8] = b"\x0C\x7F\n-----BEGIN A-----\nMAA=\n-----END A-----\n\
+      -----BEGIN A-----\nMAA=\n-----END A-----\n";
+
+/// Paths whose signatures aren't looked at, and paths in PEM.
+const PATHS: &[Run] = &[
+    (PATH_ANY, UNSIGNED, Lapse::Never, 0, b"ok\n"),
+    (PATH_ANY, PEM, Lapse::Never, 0, b"ok\n"),
+    (PATH_ANY, PEM_IN_OTHER_LINES, Lapse::Never, 0, b"ok\n"),
+    (PATH, PEM, Lapse::Never, 1, b"fault 0 Signature\n"),
+    (
+        PATH_ANY,
+        PEM_WITHOUT_END,
+        Lapse::Never,
+        1,
+        b"refused: Failed\n",
+    ),
+    (
+        PATH_ANY,
+        PEM_WITH_ANOTHER_LABEL,
+        Lapse::Never,
+        1,
+        b"refused: Failed\n",
+    ),
+    (
+        PATH_ANY,
+        PEM_OF_SPOILT_BASE64,
+        Lapse::Never,
+        1,
+        b"refused: Failed\n",
+    ),
+    (PATH_ANY, PEM_IN_DER, Lapse::Never, 1, b"refused: Failed\n"),
+    (PATH_OTHER, PEM, Lapse::Never, 2, USAGE),
+];
+
+#[test]
+fn paths(rt: HostRuntime) -> Result<(), Fail> {
+    assert_eq!(rt; first_wrong(rt.alloc(), PATHS)?, None);
     Ok(())
 }
 

@@ -71,6 +71,46 @@ fn refused(alloc: Global, text: &str) -> Result<Option<ErrorKind>, Fail> {
     }
 }
 
+/// A description of the name `Anchor` with the path length 0, and beside it an extension 1.2.3.4 that isn't critical.
+const WITH_ANOTHER: &str =
+    "A2383036300A300506032A030403010004010130163011310F300D06035504031306416E63686F72840100A10D300B300906032A0304\
+      04020500";
+
+/// The same, where that extension is critical.
+const WITH_CRITICAL: &str =
+    "A23B3039300A300506032A030403010004010130163011310F300D06035504031306416E63686F72840100A110300E300C06032A0304\
+      0101FF04020500";
+
+/// The same, with a NameConstraints that isn't critical in its place.
+const WITH_CONSTRAINTS: &str =
+    "A23F303D300A300506032A030403010004010130163011310F300D06035504031306416E63686F72840100A114301230100603551D1E\
+      04093007A1053003820161";
+
+/// The same without extensions, and with an empty name.
+const EMPTY_NAME: &str = "A2183016300A300506032A030403010004010130053000840100";
+
+/// A certificate with an empty subject.
+const EMPTY_SUBJECT: &str =
+    "305C3050A003020102020101300506032A03043011310F300D06035504031306416E63686F72301E170D3130303130313038333030\
+      305A170D3330313233313038333030305A3000300A300506032A0304030100300506032A0304030100";
+
+#[test]
+fn extensions_beside_the_controls(rt: HostRuntime) -> Result<(), Fail> {
+    let alloc = rt.alloc();
+    assert!(rt; refused(alloc, WITH_ANOTHER)? == None);
+    assert!(rt; refused(alloc, WITH_CRITICAL)? == Some(ErrorKind::Failed));
+    assert!(rt; refused(alloc, WITH_CONSTRAINTS)? == Some(ErrorKind::Failed));
+    Ok(())
+}
+
+#[test]
+fn anchors_without_a_name(rt: HostRuntime) -> Result<(), Fail> {
+    let alloc = rt.alloc();
+    assert!(rt; refused(alloc, EMPTY_NAME)? == Some(ErrorKind::Failed));
+    assert!(rt; refused(alloc, EMPTY_SUBJECT)? == Some(ErrorKind::Failed));
+    Ok(())
+}
+
 #[test]
 fn certificates_of_the_anchor(rt: HostRuntime) -> Result<(), Fail> {
     let alloc = rt.alloc();

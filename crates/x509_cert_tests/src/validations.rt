@@ -7,9 +7,13 @@ use crate::path_checks::{
 use std::alloc::Global;
 use std::str::FromStr;
 use std::test::*;
-use x509_base::DateTime;
-use x509_path::AnchorRef;
-use x509_validation::{PathSettings, Trusted, ValidationFault, ValidationReason, validate_path};
+use x509_base::{AlgorithmIdentifier, DateTime, SubjectPublicKeyInfo};
+use x509_der::ErrorKind;
+use x509_path::{AnchorRef, Verifier};
+use x509_prim::BitString;
+use x509_validation::{
+    PathSettings, Trusted, ValidationFault, ValidationReason, validate_path, working_key,
+};
 
 /// The name and the key of [`LEAF`].
 const ANCHOR: AnchorRef<'static> = AnchorRef {
@@ -54,6 +58,151 @@ fn valid(rt: HostRuntime) {
             && is_valid(rt.alloc(), &[AUTHORITY, AUTHORITY, LEAF])
             && is_valid(rt.alloc(), &[LIMITED, LEAF_OF_LIMITED])
     );
+}
+
+/// What is answered to one certificate, in date, under what is trusted, where the policies are accepted.
+fn answered(
+    alloc: Global,
+    trusted: &Trusted<'_>,
+    policies: Option<&[&[u8]]>,
+) -> Result<(), ValidationFault> {
+    let Ok(moment) = DateTime::from_str(IN_DATE) else {
+        return Err(ValidationFault::Memory);
+    };
+    let settings = PathSettings {
+        user_initial_policy_set: policies,
+        ..PathSettings::new(moment)
+    };
+    match validate_path(alloc, trusted, &[LEAF], &settings, &Echo) {
+        Ok(_) => Ok(()),
+        Err(e) => Err(e),
+    }
+}
+
+/// A NULL in the place of the name, of the key, of the constraints and of the policies that are trusted.
+#[test]
+fn unreadable_trust(rt: HostRuntime) {
+    const NULL: &[u8] = &[0x05, 0x00];
+    let trusted = Trusted::new(ANCHOR);
+    let name = Trusted::new(AnchorRef {
+        name: NULL,
+        ..ANCHOR
+    });
+    let key = Trusted::new(AnchorRef {
+        key: NULL,
+        ..ANCHOR
+    });
+    let constraints = Trusted {
+        name_constraints: Some(NULL),
+        ..trusted
+    };
+    let policies = Trusted {
+        policies: Some(NULL),
+        ..trusted
+    };
+    assert!(rt; answered(rt.alloc(), &trusted, None) == Ok(()));
+    for unreadable in [name, key, constraints, policies] {
+        assert!(rt; answered(rt.alloc(), &unreadable, None) == Err(ValidationFault::Initial));
+    }
+}
+
+/// Octets that are those of no OID among the policies that the caller accepts.
+#[test]
+fn unreadable_policies(rt: HostRuntime) {
+    let trusted = Trusted::new(ANCHOR);
+    let (any, none): (&[u8], &[u8]) = (&[0x55, 0x1D, 0x20, 0x00], &[0x55, 0x80]);
+    assert!(rt; answered(rt.alloc(), &trusted, Some(&[any])) == Ok(()));
+    assert!(rt;
+        answered(rt.alloc(), &trusted, Some(&[any, none])) == Err(ValidationFault::Initial)
+    );
+}
+
+/// Accepts any bits for a key with parameters.
+struct WithParameters;
+
+impl Verifier for WithParameters {
+    ghost use Rattle.std.specs.Prelude.{is_some};
+
+    ghost accepts = { λ verifier algorithm key message signature. is_some key.algorithm.parameters };
+
+    fn verify(
+        &self,
+        _algorithm: &AlgorithmIdentifier,
+        key: &SubjectPublicKeyInfo,
+        _message: &[u8],
+        _signature: &BitString,
+    ) -> bool {
+        key.algorithm.parameters.is_some()
+    }
+}
+
+/// What is answered to an authority and a certificate whose keys of the algorithm 1.2.3.4 have no parameters, under such a name
+/// and that key; whether the last key is used with those parameters.
+fn is_used_with(
+    alloc: Global,
+    key: &[u8],
+    parameters: Option<&[u8]>,
+) -> Result<bool, ValidationFault> {
+    let Ok(moment) = DateTime::from_str(IN_DATE) else {
+        return Err(ValidationFault::Memory);
+    };
+    let trusted = Trusted::new(AnchorRef { key, ..ANCHOR });
+    let settings = PathSettings::new(moment);
+    match validate_path(
+        alloc,
+        &trusted,
+        &[AUTHORITY, LEAF],
+        &settings,
+        &WithParameters,
+    ) {
+        Ok(validated) => Ok(validated.parameters == parameters),
+        Err(e) => Err(e),
+    }
+}
+
+/// The parameters are an INTEGER of the anchor's key, whose algorithm is 1.2.3.4, and then 1.2.3.5 (RFC 5280 6.1.4 (e)).
+#[test]
+fn inherited_parameters(rt: HostRuntime) {
+    let same = b"\x30\x0D\x30\x08\x06\x03\x2A\x03\x04\x02\x01\x07\x03\x01\x00";
+    let other = b"\x30\x0D\x30\x08\x06\x03\x2A\x03\x05\x02\x01\x07\x03\x01\x00";
+    let left = ValidationFault::At {
+        place: 1,
+        reason: ValidationReason::Signature,
+    };
+    assert!(rt; is_used_with(rt.alloc(), same, Some(&[0x02, 0x01, 0x07])) == Ok(true));
+    assert!(rt; is_used_with(rt.alloc(), other, None) == Err(left));
+}
+
+/// NULL is no parameters: a key under one with a NULL has none.
+#[test]
+fn no_inherited_null(rt: HostRuntime) {
+    let null = b"\x30\x0C\x30\x07\x06\x03\x2A\x03\x04\x05\x00\x03\x01\x00";
+    let left = ValidationFault::At {
+        place: 1,
+        reason: ValidationReason::Signature,
+    };
+    assert!(rt; is_used_with(rt.alloc(), null, None) == Err(left));
+}
+
+/// The error for a key under the one above.
+fn refused_key(alloc: Global, above: &[u8], key: &[u8]) -> Option<ErrorKind> {
+    match working_key(alloc, above, key) {
+        Ok(_) => None,
+        Err(e) => Some(e.kind()),
+    }
+}
+
+/// A key as it is used under another, and what isn't a key.
+#[test]
+fn working_keys(rt: HostRuntime) -> Result<(), Fail> {
+    let alloc = rt.alloc();
+    let above = b"\x30\x0D\x30\x08\x06\x03\x2A\x03\x04\x02\x01\x07\x03\x01\x00";
+    let found = working_key(alloc, above, ANCHOR.key)?;
+    assert!(rt; found.as_slice() == above.as_slice());
+    let own = working_key(alloc, ANCHOR.key, above)?;
+    assert!(rt; own.as_slice() == above.as_slice());
+    assert!(rt; refused_key(alloc, above, &[0x05, 0x00]) == Some(ErrorKind::Malformed));
+    Ok(())
 }
 
 /// No path; and a NULL in the place of a NameConstraints.

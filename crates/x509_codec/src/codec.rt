@@ -6,6 +6,7 @@ ghost use Rattle.x509_der.specs.declared.error.ErrorKind.TheVariants.{Memory};
 ghost use Rattle.x509_codec.specs.declared.profile_name.ProfileName.{ProfileName};
 
 use crate::profile_name::ProfileName;
+use crate::signatures::Signatures;
 use std::alloc::Global;
 use x509_der::Error;
 
@@ -68,23 +69,26 @@ pub trait PathCodec {
     ghost use Rattle.std.specs.Prelude.{map, string_bytes};
     ghost use Rattle.std.specs.Option.{option_map};
     ghost use Rattle.x509_codec.specs.Answers.{PathStep};
+    ghost use Rattle.x509_codec.specs.declared.signatures.Signatures.{Signatures};
 
-    /// What may be said of a path, apart from out of memory: nothing where it holds, else its first fault; or an error.
-    ghost checks_path: { PathStep };
+    /// What may be said of a path where these signatures are accepted, apart from out of memory: nothing where it holds, else its first
+    /// fault; or an error.
+    ghost checks_path: { Signatures → PathStep };
 
     /// The first fault of the certificates, topmost first, at the moment of the text, under the subject and the key of
-    /// the anchor's certificate; `None` where the path holds.
+    /// the anchor's certificate, where these signatures are accepted; `None` where the path holds.
     ///
     /// # Errors
     ///
     /// Those that `checks_path` has; `Memory` when out of memory.
     fn check_path(
         alloc: Global,
+        accepted: Signatures,
         moment: &str,
         anchor: &[u8],
         path: &[Vec<u8>],
     ) -> Result<Option<String>, Error>
         ensures { MatchResult result
-            (λ fault. checks_path moment.now anchor.now (map (λ certificate. certificate.items) path.now) (Ok (option_map string_bytes fault)))
-            (λ e. (e.kind ≡ Memory) ⊎ checks_path moment.now anchor.now (map (λ certificate. certificate.items) path.now) (Err e.kind)) };
+            (λ fault. checks_path accepted moment.now anchor.now (map (λ certificate. certificate.items) path.now) (Ok (option_map string_bytes fault)))
+            (λ e. (e.kind ≡ Memory) ⊎ checks_path accepted moment.now anchor.now (map (λ certificate. certificate.items) path.now) (Err e.kind)) };
 }

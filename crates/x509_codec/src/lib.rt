@@ -4,6 +4,8 @@
 
 mod codec;
 mod profile_name;
+mod signatures;
 
 pub use codec::{Codec, NameCodec, PathCodec};
 pub use profile_name::ProfileName;
+pub use signatures::Signatures;

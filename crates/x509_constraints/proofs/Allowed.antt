@@ -4,16 +4,19 @@ use Rattle.std.proofs.lemmas.Bool.{and_parts, or_cases}
 use Rattle.std.proofs.lemmas.Bool.Decides.{eqb_tells, nat_tests}
 use Rattle.std.proofs.lemmas.List.Elements.{All-cons, All-head, All-tail, All-nil}
 use Rattle.std.proofs.lemmas.List.Folds.{Any-from_list_any, list_any-append, list_any-from_Any, list_all-append}
-use Rattle.std.specs.List.{list_all, list_any}
+use Rattle.std.specs.List.{Any, list_all, list_any}
 use Rattle.x509_ext.specs.declared.pkix.general_subtree.GeneralSubtree.{GeneralSubtree}
 use Rattle.x509_ext.specs.declared.pkix.name.general_name.GeneralName.{GeneralName}
 use Rattle.x509_ext.specs.declared.pkix.name.general_name.GeneralName.TheVariants.{OtherName}
 use Rattle.x509_ext.specs.declared.pkix.name_constraints.NameConstraints.{NameConstraints}
-use Rattle.x509_constraints.specs.Constraints.{HasForm, IsAllowed, IsAllowedBy, IsWithin, IsWithinOne, excluded, form_of, is_comparable, permitted}
+use Rattle.x509_constraints.specs.Constraints.{HasForm, IsAllowed, IsAllowedBy, IsExcluded, IsUnclear, IsWithin, IsWithinOne, excluded, form_of, has_unusable, is_comparable, is_usable_subtree, permitted}
+use Rattle.x509_constraints.specs.Applied.{IsAskedByKey}
+use Rattle.x509_constraints.specs.Marks.{marks_in, rejects}
 use Rattle.x509_constraints.specs.Prefixes.{begins, has_prefix}
-use Rattle.x509_constraints.specs.SubtreeKeys.{base_prefixes, constrains, excludes, has_form, has_none, name_key, open_below, open_form, own_key, permits, permitted_prefixes, prefixes_of}
+use Rattle.x509_constraints.specs.SubtreeKeys.{base_prefixes, constrains, excluded_by, excluded_prefixes, excludes, excludes_form, has_form, has_none, is_unusable_for, name_key, open_below, open_form, own_key, permits, permitted_prefixes, prefixes_of}
 use Rattle.x509_constraints.proofs.Anys.{Any-by, one_of_all}
-use Rattle.x509_constraints.proofs.Withins.{within_answers, within_form}
+use Rattle.x509_constraints.proofs.Marked.{any_swap, marked_answers}
+use Rattle.x509_constraints.proofs.Withins.{IsKeyed, excluded_answers, excluded_form, no_host_within, unclear_form, within_answers}
 
 clash : (b : Bool) → b ≡ true → b ≡ false → ⊥
 clash b t f = let e : true ≡ false = sym t ∙ f in cc
@@ -83,56 +86,75 @@ open_has subtrees f k (suc n) h = list_any-append (λ p. begins (f ∷ k) p) (op
 
 -- ---- one set
 
-one_within : (name : GeneralName) → is_comparable name ≡ true → (subtrees : List GeneralSubtree) →
+one_within : (name : GeneralName) → IsKeyed name → (subtrees : List GeneralSubtree) →
     (has_prefix (prefixes_of subtrees) (name_key name) ≡ true) ↔ IsWithinOne name subtrees
-one_within name can subtrees = one_of_all (λ s. base_prefixes s.base) (name_key name) (λ s. IsWithin name s.base) (λ s. within_answers name s.base can) subtrees
+one_within name keyed subtrees =
+    one_of_all (λ s. base_prefixes s.base) (name_key name) (λ s. IsWithin name s.base) (λ s. within_answers name s.base keyed) subtrees
+
+one_excluded : (name : GeneralName) → IsKeyed name → (subtrees : List GeneralSubtree) →
+    (has_prefix (excluded_prefixes subtrees) (name_key name) ≡ true) ↔ Any (λ s. IsExcluded name s.base) subtrees
+one_excluded name keyed subtrees =
+    one_of_all (λ s. excluded_by s.base) (name_key name) (λ s. IsExcluded name s.base) (λ s. excluded_answers name s.base keyed) subtrees
 
 none_of_none : (f : ℕ) → HasForm f [] → ⊥
 none_of_none f (k, x, inside, at, holds) = absurd (omega arith)
 
-permits_of : (name : GeneralName) → is_comparable name ≡ true → form_of name < 9 → (subtrees : List GeneralSubtree) →
+permits_of : (name : GeneralName) → IsKeyed name → form_of name < 9 → (subtrees : List GeneralSubtree) →
     ((has_none subtrees || has_prefix (permitted_prefixes subtrees) (name_key name)) ≡ true) ↔ (HasForm (form_of name) subtrees → IsWithinOne name subtrees)
-permits_of name can few [] = ((λ h has. absurd (none_of_none (form_of name) has)), (λ h. refl))
-permits_of name can few (s ∷ rest) = (forth, (λ h. whole ∙ back h (has_form (form_of name) (s ∷ rest)) refl))
+permits_of name keyed few [] = ((λ h has. absurd (none_of_none (form_of name) has)), (λ h. refl))
+permits_of name keyed few (s ∷ rest) = (forth, (λ h. whole ∙ back h (has_form (form_of name) (s ∷ rest)) refl))
   where
-    whole : has_prefix (permitted_prefixes (s ∷ rest)) (name_key name) ≡ (has_prefix (prefixes_of (s ∷ rest)) (name_key name) || not (has_form (form_of name) (s ∷ rest)))
+    whole : has_prefix (permitted_prefixes (s ∷ rest)) (name_key name)
+        ≡ (has_prefix (prefixes_of (s ∷ rest)) (name_key name) || not (has_form (form_of name) (s ∷ rest)))
     whole = list_any-append (λ p. begins (name_key name) p) (prefixes_of (s ∷ rest)) (open_below (s ∷ rest) 9)
         ∙ ap (λ b. has_prefix (prefixes_of (s ∷ rest)) (name_key name) || b) (open_has (s ∷ rest) (form_of name) (own_key name) 9 few)
 
     forth : has_prefix (permitted_prefixes (s ∷ rest)) (name_key name) ≡ true → HasForm (form_of name) (s ∷ rest) → IsWithinOne name (s ∷ rest)
     forth h has = elim (or_cases (has_prefix (prefixes_of (s ∷ rest)) (name_key name)) (not (has_form (form_of name) (s ∷ rest))) (sym whole ∙ h)) [
-      | inl found ↦ (one_within name can (s ∷ rest)).0 found
+      | inl found ↦ (one_within name keyed (s ∷ rest)).0 found
       | inr none ↦ absurd (let e : false ≡ true = sym (ap not (HasForm-has_form (form_of name) (s ∷ rest) has)) ∙ none in cc)
     ]
 
     back : (HasForm (form_of name) (s ∷ rest) → IsWithinOne name (s ∷ rest)) → (b : Bool) → has_form (form_of name) (s ∷ rest) ≡ b →
         (has_prefix (prefixes_of (s ∷ rest)) (name_key name) || not (has_form (form_of name) (s ∷ rest))) ≡ true
-    back h true is = or_left _ _ ((one_within name can (s ∷ rest)).1 (h (has_form-HasForm (form_of name) (s ∷ rest) is)))
+    back h true is = or_left _ _ ((one_within name keyed (s ∷ rest)).1 (h (has_form-HasForm (form_of name) (s ∷ rest) is)))
     back h false is = or_right _ _ (ap not is)
 
 pub form-few : (name : GeneralName) → form_of name < 9
 form-few (OtherName n) = omega arith
 form-few _ = omega arith
 
--- what a set says of a name that can be compared
-set_answers : (name : GeneralName) → is_comparable name ≡ true → (set : NameConstraints) →
-    (permits (name_key name) set ≡ true) × (excludes (name_key name) set ≡ false) → IsAllowedBy set name
-set_answers name can set (in_one, in_none) = record {
-  within_permitted = (permits_of name can (form-few name) (permitted set)).0 in_one;
-  not_excluded = λ within. clash _ ((one_within name can (excluded set)).1 within) in_none;
-  compared = λ has. can;
+-- the set has a mark against an attribute of the name
+abbrev marks_it : GeneralName → NameConstraints → Bool
+marks_it name set = list_any (λ key. rejects key set) (marks_in name)
+
+-- what the keys of a name say of a set
+pub record SaysNothing (name : GeneralName) (set : NameConstraints) : Type 0 where
+  pub permitted : permits (name_key name) set ≡ true
+  pub excluded : excludes (name_key name) set ≡ false
+  pub marks : marks_it name set ≡ false
+
+-- a set whose subtrees of the form can be used, and compared where they have to
+set_answers : (name : GeneralName) → IsKeyed name → (set : NameConstraints) → is_unusable_for (form_of name) set ≡ false →
+    (excludes_form (form_of name) set ≡ true → is_comparable name ≡ true) → SaysNothing name set → IsAllowedBy set name
+set_answers name keyed set can_use can says = record {
+  usable = can_use;
+  within_permitted = (permits_of name keyed (form-few name) (permitted set)).0 says.permitted;
+  not_excluded = λ any. clash _ ((one_excluded name keyed (excluded set)).1 any) says.excluded;
+  compared = λ has. can (HasForm-has_form (form_of name) (excluded set) has);
+  clear = λ any. clash _ ((marked_answers name (excluded set)).1 any) says.marks;
 }
 
-answers_set : (name : GeneralName) → is_comparable name ≡ true → (set : NameConstraints) → IsAllowedBy set name →
-    (permits (name_key name) set ≡ true) × (excludes (name_key name) set ≡ false)
-answers_set name can set allowed = (
-  (permits_of name can (form-few name) (permitted set)).1 allowed.within_permitted,
-  by_test (excludes (name_key name) set) refl,
-)
-  where
-    by_test : (b : Bool) → excludes (name_key name) set ≡ b → b ≡ false
-    by_test true is = absurd (allowed.not_excluded ((one_within name can (excluded set)).0 is))
-    by_test false is = refl
+not_true_is : (b : Bool) → (b ≡ true → ⊥) → b ≡ false
+not_true_is true h = absurd (h refl)
+not_true_is false h = refl
+
+answers_set : (name : GeneralName) → IsKeyed name → (set : NameConstraints) → IsAllowedBy set name → SaysNothing name set
+answers_set name keyed set allowed = record {
+  permitted = (permits_of name keyed (form-few name) (permitted set)).1 allowed.within_permitted;
+  excluded = not_true_is _ (λ is. allowed.not_excluded ((one_excluded name keyed (excluded set)).0 is));
+  marks = not_true_is _ (λ is. allowed.clear ((marked_answers name (excluded set)).0 is));
+}
 
 -- ---- all sets
 
@@ -148,67 +170,143 @@ not_true : (a : Bool) → not a ≡ true → a ≡ false
 not_true true h = absurd (cc)
 not_true false h = refl
 
-all_answers : (name : GeneralName) → is_comparable name ≡ true → (sets : List NameConstraints) → list_all (permits (name_key name)) sets ≡ true →
-    list_any (excludes (name_key name)) sets ≡ false → IsAllowed sets name
-all_answers name can [] h k = All-nil (λ set. IsAllowedBy set name)
-all_answers name can (set ∷ sets) h k =
-    let both = and_parts (permits (name_key name) set) (list_all (permits (name_key name)) sets) h in
-    let none = or_false (excludes (name_key name) set) (list_any (excludes (name_key name)) sets) k in
-    All-cons (λ s. IsAllowedBy s name) set sets (set_answers name can set (both.0, none.0)) (all_answers name can sets both.1 none.1)
+-- what the keys of a name say of all sets
+pub record SayNothing (name : GeneralName) (sets : List NameConstraints) : Type 0 where
+  pub permitted : list_all (permits (name_key name)) sets ≡ true
+  pub excluded : list_any (excludes (name_key name)) sets ≡ false
+  pub marks : list_any (marks_it name) sets ≡ false
 
-answers_all : (name : GeneralName) → is_comparable name ≡ true → (sets : List NameConstraints) → IsAllowed sets name →
-    (list_all (permits (name_key name)) sets ≡ true) × (list_any (excludes (name_key name)) sets ≡ false)
-answers_all name can [] h = (refl, refl)
-answers_all name can (set ∷ sets) h =
-    let own = answers_set name can set (All-head (λ s. IsAllowedBy s name) set sets h) in
-    let others = answers_all name can sets (All-tail (λ s. IsAllowedBy s name) set sets h) in
-    (and_true _ _ own.0 others.0, ap (λ b. b || list_any (excludes (name_key name)) sets) own.1 ∙ others.1)
+all_answers : (name : GeneralName) → IsKeyed name → (sets : List NameConstraints) → list_any (is_unusable_for (form_of name)) sets ≡ false →
+    (list_any (excludes_form (form_of name)) sets ≡ true → is_comparable name ≡ true) → SayNothing name sets → IsAllowed sets name
+all_answers name keyed [] can_use can says = All-nil (λ set. IsAllowedBy set name)
+all_answers name keyed (set ∷ sets) can_use can says =
+    let used = or_false (is_unusable_for (form_of name) set) (list_any (is_unusable_for (form_of name)) sets) can_use in
+    let both = and_parts (permits (name_key name) set) (list_all (permits (name_key name)) sets) says.permitted in
+    let none = or_false (excludes (name_key name) set) (list_any (excludes (name_key name)) sets) says.excluded in
+    let free = or_false (marks_it name set) (list_any (marks_it name) sets) says.marks in
+    All-cons (λ s. IsAllowedBy s name) set sets
+    (set_answers name keyed set used.0 (λ h. can (or_left _ _ h)) (record { permitted = both.0; excluded = none.0; marks = free.0 }))
+    (all_answers name keyed sets used.1 (λ h. can (or_right _ _ h)) (record { permitted = both.1; excluded = none.1; marks = free.1 }))
 
-pub key_answers : (name : GeneralName) (sets : List NameConstraints) (key : List ℕ) (b p e : Bool) → is_comparable name ≡ true → key ≡ name_key name →
-    p ≡ list_all (permits key) sets → e ≡ list_any (excludes key) sets → b ≡ (p && not e) → IsTrue b ↔ IsAllowed sets name
-key_answers name sets key b p e can is_key is_p is_e is_b =
+answers_all : (name : GeneralName) → IsKeyed name → (sets : List NameConstraints) → IsAllowed sets name → SayNothing name sets
+answers_all name keyed [] h = record { permitted = refl; excluded = refl; marks = refl }
+answers_all name keyed (set ∷ sets) h =
+    let own = answers_set name keyed set (All-head (λ s. IsAllowedBy s name) set sets h) in
+    let others = answers_all name keyed sets (All-tail (λ s. IsAllowedBy s name) set sets h) in
+    record {
+      permitted = and_true _ _ own.permitted others.permitted;
+      excluded = ap (λ b. b || list_any (excludes (name_key name)) sets) own.excluded ∙ others.excluded;
+      marks = ap (λ b. b || list_any (marks_it name) sets) own.marks ∙ others.marks;
+    }
+
+-- marks looked up one after the other, as sets hold them
+marks_round : (name : GeneralName) (sets : List NameConstraints) → list_any (λ key. list_any (rejects key) sets) (marks_in name) ≡ list_any (marks_it name) sets
+marks_round name sets = any_swap (λ key set. rejects key set) (marks_in name) sets
+
+pub key_answers : (name : GeneralName) (sets : List NameConstraints) (key : List ℕ) (b p e m : Bool) → IsAskedByKey sets name → key ≡ name_key name →
+    p ≡ list_all (permits key) sets → e ≡ list_any (excludes key) sets → m ≡ list_any (λ k. list_any (rejects k) sets) (marks_in name) → m ≡ false →
+    b ≡ (p && not e) → IsTrue b ↔ IsAllowed sets name
+key_answers name sets key b p e m asked is_key is_p is_e is_m free is_b =
     let in_all : p ≡ list_all (permits (name_key name)) sets = is_p ∙ ap (λ k. list_all (permits k) sets) is_key in
-    let in_some : e ≡ list_any (excludes (name_key name)) sets = is_e ∙ ap (λ k. list_any (excludes k) sets) is_key in (
-      (λ holds. let both = and_parts p (not e) (sym is_b ∙ holds) in all_answers name can sets (sym in_all ∙ both.0) (sym in_some ∙ not_true e both.1)),
-      (λ allowed. let both = answers_all name can sets allowed in is_b ∙ and_true p (not e) (in_all ∙ both.0) (not_false e (in_some ∙ both.1))),
+    let in_some : e ≡ list_any (excludes (name_key name)) sets = is_e ∙ ap (λ k. list_any (excludes k) sets) is_key in
+    let unmarked : list_any (marks_it name) sets ≡ false = sym (marks_round name sets) ∙ (sym is_m ∙ free) in (
+      (λ holds. let both = and_parts p (not e) (sym is_b ∙ holds) in
+          all_answers name asked.host sets asked.usable asked.compared
+          (record { permitted = sym in_all ∙ both.0; excluded = sym in_some ∙ not_true e both.1; marks = unmarked })),
+      (λ allowed. let says = answers_all name asked.host sets allowed in
+          is_b ∙ and_true p (not e) (in_all ∙ says.permitted) (not_false e (in_some ∙ says.excluded))),
     )
 
+pub marked_refused : (name : GeneralName) (sets : List NameConstraints) (m : Bool) → IsAskedByKey sets name →
+    m ≡ list_any (λ k. list_any (rejects k) sets) (marks_in name) → m ≡ true → IsTrue false ↔ IsAllowed sets name
+marked_refused name sets m asked is_m marked = (
+  (λ h. absurd (let e : false ≡ true = h in cc)),
+  (λ allowed. absurd (clash _ (sym (marks_round name sets) ∙ (sym is_m ∙ marked)) (answers_all name asked.host sets allowed).marks)),
+)
+
 -- ---- where the form isn't constrained
+
+none_unusable : (f : ℕ) (subtrees : List GeneralSubtree) → has_form f subtrees ≡ false → has_unusable f subtrees ≡ false
+none_unusable f [] h = refl
+none_unusable f (s ∷ subtrees) h =
+    let both = or_false (form_of s.base == f) (has_form f subtrees) h in
+    ap (λ t. (t && not (is_usable_subtree s)) || has_unusable f subtrees) both.0 ∙ none_unusable f subtrees both.1
 
 free_of : (name : GeneralName) (set : NameConstraints) → constrains (form_of name) set ≡ false → IsAllowedBy set name
 free_of name set h =
     let both = or_false (has_form (form_of name) (permitted set)) (has_form (form_of name) (excluded set)) h in
     record {
+      usable = ap (λ t. t || has_unusable (form_of name) (excluded set)) (none_unusable (form_of name) (permitted set) both.0)
+          ∙ none_unusable (form_of name) (excluded set) both.1;
       within_permitted = λ has. absurd (clash _ (HasForm-has_form (form_of name) (permitted set) has) both.0);
-      not_excluded = λ within. clash _ (HasForm-has_form (form_of name) (excluded set) (Any-by (λ s. IsWithin name s.base) (λ s. form_of s.base ≡ form_of name)
-          (λ s. within_form name s.base) (excluded set) within)) both.1;
-      compared = λ has. absurd (no_form both has);
+      not_excluded = λ any. clash _ (HasForm-has_form (form_of name) (excluded set) (Any-by (λ s. IsExcluded name s.base) (λ s. form_of s.base ≡ form_of name)
+          (λ s. excluded_form name s.base) (excluded set) any)) both.1;
+      compared = λ has. absurd (clash _ (HasForm-has_form (form_of name) (excluded set) has) both.1);
+      clear = λ any. clash _ (HasForm-has_form (form_of name) (excluded set) (Any-by (λ s. IsUnclear name s.base) (λ s. form_of s.base ≡ form_of name)
+          (λ s. unclear_form name s.base) (excluded set) any)) both.1;
     }
-  where
-    no_form : (has_form (form_of name) (permitted set) ≡ false) × (has_form (form_of name) (excluded set) ≡ false) →
-        HasForm (form_of name) (permitted set) ⊎ HasForm (form_of name) (excluded set) → ⊥
-    no_form both (inl has) = clash _ (HasForm-has_form (form_of name) (permitted set) has) both.0
-    no_form both (inr has) = clash _ (HasForm-has_form (form_of name) (excluded set) has) both.1
 
--- ---- where it is, and the name can't be compared
+free_all : (name : GeneralName) (sets : List NameConstraints) → list_any (constrains (form_of name)) sets ≡ false → IsAllowed sets name
+free_all name [] h = All-nil (λ set. IsAllowedBy set name)
+free_all name (set ∷ sets) h =
+    let both = or_false (constrains (form_of name) set) (list_any (constrains (form_of name)) sets) h in
+    All-cons (λ s. IsAllowedBy s name) set sets (free_of name set both.0) (free_all name sets both.1)
 
-not_compared : (name : GeneralName) (sets : List NameConstraints) → list_any (constrains (form_of name)) sets ≡ true → is_comparable name ≡ false → IsAllowed sets name → ⊥
-not_compared name [] h k allowed = absurd (cc)
-not_compared name (set ∷ sets) h k allowed = elim (or_cases (constrains (form_of name) set) (list_any (constrains (form_of name)) sets) h) [
-  | inl own ↦
-      let of_set = All-head (λ s. IsAllowedBy s name) set sets allowed in
-      clash _ (of_set.compared (some_form (or_cases (has_form (form_of name) (permitted set)) (has_form (form_of name) (excluded set)) own))) k
-  | inr others ↦ not_compared name sets others k (All-tail (λ s. IsAllowedBy s name) set sets allowed)
+pub free_answers : (name : GeneralName) (sets : List NameConstraints) (c : Bool) → c ≡ list_any (constrains (form_of name)) sets → c ≡ false →
+    IsTrue true ↔ IsAllowed sets name
+free_answers name sets c is none = ((λ h. free_all name sets (sym is ∙ none)), (λ allowed. refl))
+
+-- ---- where some set refuses names of the form
+
+-- what no name is allowed by, one of the sets is
+some_refuses : (test : NameConstraints → Bool) (name : GeneralName) (sets : List NameConstraints) →
+    ((set : NameConstraints) → test set ≡ true → IsAllowedBy set name → ⊥) → list_any test sets ≡ true → IsAllowed sets name → ⊥
+some_refuses test name [] each h allowed = absurd (cc)
+some_refuses test name (set ∷ sets) each h allowed = elim (or_cases (test set) (list_any test sets) h) [
+  | inl own ↦ each set own (All-head (λ s. IsAllowedBy s name) set sets allowed)
+  | inr others ↦ some_refuses test name sets each others (All-tail (λ s. IsAllowedBy s name) set sets allowed)
+]
+
+refused_by : (test : NameConstraints → Bool) (name : GeneralName) (sets : List NameConstraints) →
+    ((set : NameConstraints) → test set ≡ true → IsAllowedBy set name → ⊥) → list_any test sets ≡ true → IsTrue false ↔ IsAllowed sets name
+refused_by test name sets each h = ((λ t. absurd (let e : false ≡ true = t in cc)), (λ allowed. absurd (some_refuses test name sets each h allowed)))
+
+pub unusable_answers : (name : GeneralName) (sets : List NameConstraints) (c : Bool) → c ≡ list_any (is_unusable_for (form_of name)) sets → c ≡ true →
+    IsTrue false ↔ IsAllowed sets name
+unusable_answers name sets c is some =
+    refused_by (is_unusable_for (form_of name)) name sets (λ set bad allowed. clash _ bad allowed.usable) (sym is ∙ some)
+
+not_compared : (name : GeneralName) → is_comparable name ≡ false → (set : NameConstraints) → excludes_form (form_of name) set ≡ true → IsAllowedBy set name → ⊥
+not_compared name nothing set has allowed = clash _ (allowed.compared (has_form-HasForm (form_of name) (excluded set) has)) nothing
+
+no_host : (name : GeneralName) → is_comparable name ≡ false → form_of name ≡ 6 → (set : NameConstraints) → constrains (form_of name) set ≡ true →
+    IsAllowedBy set name → ⊥
+no_host name nothing is set has allowed = elim (or_cases (has_form (form_of name) (permitted set)) (has_form (form_of name) (excluded set)) has) [
+  | inl own ↦ none (allowed.within_permitted (has_form-HasForm (form_of name) (permitted set) own))
+  | inr other ↦ not_compared name nothing set other allowed
 ]
   where
-    some_form : (has_form (form_of name) (permitted set) ≡ true) ⊎ (has_form (form_of name) (excluded set) ≡ true) →
-        HasForm (form_of name) (permitted set) ⊎ HasForm (form_of name) (excluded set)
-    some_form (inl h) = inl (has_form-HasForm (form_of name) (permitted set) h)
-    some_form (inr h) = inr (has_form-HasForm (form_of name) (excluded set) h)
+    none : IsWithinOne name (permitted set) → ⊥
+    none (k, s, inside, at, holds) = no_host_within name s.base is nothing holds
 
-pub refused_answers : (name : GeneralName) (sets : List NameConstraints) (c : Bool) → c ≡ list_any (constrains (form_of name)) sets → c ≡ true →
-    is_comparable name ≡ false → IsTrue false ↔ IsAllowed sets name
-refused_answers name sets c is some can = ((λ h. absurd (cc)), (λ allowed. absurd (not_compared name sets (sym is ∙ some) can allowed)))
+pub refused_answers : (name : GeneralName) (sets : List NameConstraints) (c e : Bool) → c ≡ list_any (constrains (form_of name)) sets → c ≡ true →
+    e ≡ list_any (excludes_form (form_of name)) sets → (e || (form_of name == 6)) ≡ true → is_comparable name ≡ false → IsTrue false ↔ IsAllowed sets name
+refused_answers name sets c e is some is_e asks nothing = elim (or_cases e (form_of name == 6) asks) [
+  | inl excluding ↦ refused_by (excludes_form (form_of name)) name sets (not_compared name nothing) (sym is_e ∙ excluding)
+  | inr uri ↦ refused_by (constrains (form_of name)) name sets (no_host name nothing (form_test (form_of name) 6 uri)) (sym is ∙ some)
+]
+
+-- asked by its key else
+pub asked_answers : (name : GeneralName) (sets : List NameConstraints) (u e can : Bool) → u ≡ list_any (is_unusable_for (form_of name)) sets → u ≡ false →
+    e ≡ list_any (excludes_form (form_of name)) sets → is_comparable name ≡ can → ((can ≡ false) → (e || (form_of name == 6)) ≡ false) → IsAskedByKey sets name
+asked_answers name sets u e true is_u none is_e can asks = record { usable = sym is_u ∙ none; compared = λ h. can; host = λ h. can }
+asked_answers name sets u e false is_u none is_e can asks =
+    let both = or_false e (form_of name == 6) (asks refl) in
+    record {
+      usable = sym is_u ∙ none;
+      compared = λ h. absurd (clash _ (is_e ∙ h) both.0);
+      host = λ h. absurd (clash _ (eq-eqb (form_of name) 6 h) both.1);
+    }
 
 -- ---- another set
 
@@ -228,7 +326,8 @@ any_more p xs x a b was is = is ∙ (ap (λ t. t || p x) was ∙ (ap (λ t. list
 
 -- ---- an array of nine
 
-pub nine : (r0 r1 r2 r3 r4 r5 r6 r7 r8 : Bool) (f : ℕ → Bool) → r0 ≡ f 0 → r1 ≡ f 1 → r2 ≡ f 2 → r3 ≡ f 3 → r4 ≡ f 4 → r5 ≡ f 5 → r6 ≡ f 6 → r7 ≡ f 7 → r8 ≡ f 8 → (form : ℕ) → form < 9 →
+pub nine : (r0 r1 r2 r3 r4 r5 r6 r7 r8 : Bool) (f : ℕ → Bool) → r0 ≡ f 0 → r1 ≡ f 1 → r2 ≡ f 2 → r3 ≡ f 3 → r4 ≡ f 4 → r5 ≡ f 5 → r6 ≡ f 6 →
+    r7 ≡ f 7 → r8 ≡ f 8 → (form : ℕ) → form < 9 →
     slice_index_or (r0 ∷ r1 ∷ r2 ∷ r3 ∷ r4 ∷ r5 ∷ r6 ∷ r7 ∷ r8 ∷ []) form false ≡ f form
 nine r0 r1 r2 r3 r4 r5 r6 r7 r8 f e0 e1 e2 e3 e4 e5 e6 e7 e8 zero h = e0
 nine r0 r1 r2 r3 r4 r5 r6 r7 r8 f e0 e1 e2 e3 e4 e5 e6 e7 e8 (suc zero) h = e1

@@ -1,8 +1,7 @@
 -- What a set answers of the prefixes of several subtrees.
-use Rattle.std.proofs.Common.{◌≡◌, ◌↔◌, ℕ, ◌≤◌, Bool, true, ◌||◌, List, [], ◌∷◌, length, take, refl, sym, ◌∙◌, ap, subst}
+use Rattle.std.proofs.Common.{◌≡◌, ◌↔◌, ℕ, true, ◌||◌, List, [], ◌∷◌, refl, sym, ◌∙◌, ap}
 use Rattle.std.proofs.lemmas.List.Folds.{Any-from_list_any, list_any-append, list_any-from_Any}
 use Rattle.std.specs.List.{Any, flat_map, list_any}
-use Rattle.std.proofs.lemmas.List.{take_all}
 use Rattle.x509_constraints.specs.Prefixes.{begins, has_prefix}
 
 pub has_prefix-flat_map : {X : Type 0} (f : X → List (List ℕ)) (key : List ℕ) (xs : List X) →
@@ -23,13 +22,3 @@ one_of_all f key IsWithin answers xs = (
   (λ any. has_prefix-flat_map f key xs ∙ list_any-from_Any (λ x. has_prefix (f x) key) xs (Any-by IsWithin (λ x. has_prefix (f x) key ≡ true) (λ x.
       (answers x).1) xs any)),
 )
-
--- the same as the loop leaves it
-pub one_of_taken : {X : Type 0} (f : X → List (List ℕ)) (key : List ℕ) (IsWithin : X → Type 0) → ((x : X) → (has_prefix (f x) key ≡ true) ↔ IsWithin x) →
-    (xs : List X) (n : ℕ) (prefixes set : List (List ℕ)) → length xs ≤ n → prefixes ≡ flat_map f (take n xs) → has_prefix set key ≡ has_prefix prefixes key →
-    (has_prefix set key ≡ true) ↔ Any IsWithin xs
-one_of_taken f key IsWithin answers xs n prefixes set all are same =
-    let whole : has_prefix set key ≡ has_prefix (flat_map f xs) key =
-    same ∙ (ap (λ l. has_prefix l key) (are ∙ ap (flat_map f) (take_all n xs all))) in
-    let P : Bool → Type 0 = λ b. (b ≡ true) ↔ Any IsWithin xs in
-    subst P (sym whole) (one_of_all f key IsWithin answers xs)

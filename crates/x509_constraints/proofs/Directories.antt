@@ -1,12 +1,15 @@
 -- Keys of directory names say which subtrees have them.
 use Rattle.std.proofs.Common.{◌≡◌, ◌↔◌, ℕ, ◌≤◌, length, take, true, false, List, [], ◌∷◌, ◌++◌, map, refl, sym, ◌∙◌, ap, append_assoc}
 use Rattle.std.proofs.lemmas.List.{take_all}
-use Rattle.std.specs.List.{Any, flat_map}
-use Rattle.x509_constraints.specs.Directory.{IsWithinDirectory, directory_key, rdn_key}
-use Rattle.x509_constraints.specs.KeyLaws.{has_prefix-one, stops_meet, stops_same}
+use Rattle.std.specs.List.{flat_map}
+use Rattle.x509_constraints.specs.Directory.{directory_key, rdn_key}
+use Rattle.x509_constraints.proofs.KeyLaws.{stops_meet, stops_same}
 use Rattle.x509_constraints.specs.Keys.{stop, symbols}
-use Rattle.x509_constraints.specs.Prefixes.{begins, has_prefix}
-use Rattle.x509_constraints.proofs.Anys.{one_of_taken}
+use Rattle.x509_constraints.specs.Prefixes.{begins}
+
+-- the subtree's RDNs are the first of the name
+abbrev pub IsWithinDirectory : List (List ℕ) → List (List ℕ) → Type 0
+IsWithinDirectory name subtree = (rest : List (List ℕ)) × (name ≡ subtree ++ rest)
 
 begins_none : (xs ys : List ℕ) (y : ℕ) → begins [] (xs ++ y ∷ ys) ≡ false
 begins_none [] ys y = refl
@@ -53,12 +56,3 @@ flat_map-map g (x ∷ xs) = ap (λ l. rdn_key (g x) ++ l) (flat_map-map g xs)
 pub key_of_taken : {X : Type 0} (g : X → List ℕ) (xs : List X) (n : ℕ) (key : List ℕ) → length xs ≤ n → key ≡ flat_map (λ x. rdn_key (g x)) (take n xs) →
     key ≡ directory_key (map g xs)
 key_of_taken g xs n key all is = is ∙ (ap (flat_map (λ x. rdn_key (g x))) (take_all n xs all) ∙ sym (flat_map-map g xs))
-
--- what a set of subtrees answers of a name
-pub one_directory : {X : Type 0} (g : X → List (List ℕ)) (name : List (List ℕ)) (xs : List X) (n : ℕ) (prefixes set : List (List ℕ)) → length xs ≤ n →
-    prefixes ≡ flat_map (λ x. directory_key (g x) ∷ []) (take n xs) → has_prefix set (directory_key name) ≡ has_prefix prefixes (directory_key name) →
-    (has_prefix set (directory_key name) ≡ true) ↔ Any (λ x. IsWithinDirectory name (g x)) xs
-one_directory g name xs n prefixes set all are same =
-    one_of_taken (λ x. directory_key (g x) ∷ []) (directory_key name) (λ x. IsWithinDirectory name (g x))
-    (λ x. has_prefix-one (directory_key name) (directory_key (g x)) (IsWithinDirectory name (g x)) (directory_answers name (g x))) xs n prefixes set
-    all are same

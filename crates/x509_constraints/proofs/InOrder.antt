@@ -1,5 +1,5 @@
 -- Keys in ascending order, one list for all orders of them; and what keys of distinguished names say.
-use Rattle.std.proofs.Common.{if◌then◌else◌, ◌≡◌, ◌↔◌, ℕ, zero, suc, ◌+◌, ◌<◌, ◌≤◌, Bool, true, false, cond, List, [], ◌∷◌, ◌++◌, map, take, drop, length, get_or, sum_by, bytes_eq, refl, sym, ap, ◌∙◌, subst, arith, add-one, append_assoc, suc-le-suc, zero-le, length-append, nat_lt, nat_eq}
+use Rattle.std.proofs.Common.{if◌then◌else◌, ◌≡◌, ◌↔◌, ℕ, zero, suc, ◌+◌, ◌<◌, ◌≤◌, Bool, true, false, cond, List, [], ◌∷◌, ◌++◌, map, take, length, get_or, refl, sym, ap, ◌∙◌, subst, arith, add-one, append_assoc, suc-le-suc, zero-le, length-append}
 use Rattle.std.proofs.lemmas.Bool.Decides.{nat_tests}
 use Rattle.std.proofs.lemmas.Cmp.{nat_list_cmp_total}
 use Rattle.std.proofs.lemmas.List.{append-nil, map-append, take_all}
@@ -14,13 +14,13 @@ use Rattle.std.specs.Ordering.{eq_by_cmp, is_eq, is_lt, nat_cmp}
 use Rattle.std.specs.declared.cmp.Ordering.TheVariants.{Equal}
 use Rattle.x509_match.proofs.OneOrder.{Rises, unique}
 use Rattle.x509_match.specs.Keys.{attribute_key}
-use Rattle.x509_match.specs.Matching.{BeginsWith, NamesMatch, RdnsMatch}
+use Rattle.x509_match.specs.Matching.{BeginsWith, RdnsMatch}
 use Rattle.x509_name.specs.declared.attr.type_and_value.AttributeTypeAndValue.{AttributeTypeAndValue}
-use Rattle.x509_constraints.specs.Directory.{IsWithinDirectory, directory_key, rdn_key}
+use Rattle.x509_constraints.specs.Directory.{directory_key, rdn_key}
 use Rattle.x509_constraints.specs.Keys.{stop, symbols}
 use Rattle.x509_constraints.specs.Prefixes.{begins, upto}
 use Rattle.x509_constraints.specs.SubtreeKeys.{distinguished_key, in_order, placed, rdn_octets}
-use Rattle.x509_constraints.proofs.Directories.{directory_answers}
+use Rattle.x509_constraints.proofs.Directories.{IsWithinDirectory, directory_answers}
 use Rattle.x509_constraints.proofs.Keys.{begins-itself, below, is_below, upto-trans}
 use Rattle.x509_constraints.proofs.Merges.{upto-other}
 

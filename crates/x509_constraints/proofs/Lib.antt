@@ -1,5 +1,7 @@
-pub mod Ends
 pub mod Keys
+pub mod KeyLaws
+pub mod EmailLaws
+pub mod AddressLaws
 pub mod Sweep
 pub mod Search
 pub mod Anys
@@ -10,6 +12,8 @@ pub mod Merges
 pub mod Meets
 pub mod InOrder
 pub mod Gathering
+pub mod Wildcards
+pub mod Marked
 pub mod Withins
 pub mod Allowed
 pub mod Asked

@@ -1,5 +1,5 @@
 -- Two lists of keys merged, and swept as one.
-use Rattle.std.proofs.Common.{if◌then◌else◌, nat_lt, nat_eq, ◌≡◌, ◌⊎◌, inl, inr, ℕ, suc, zero, ◌-◌, ◌<◌, Bool, true, false, ◌||◌, ◌&&◌, not, List, [], ◌∷◌, ◌++◌, length, get_or, drop, refl, sym, ◌∙◌, ap, arith, subst, Option, None, Some, MatchOption, IfSome, IsSome, is_some, slice_index_or, Bor, add-one, suc-le-suc, zero-le}
+use Rattle.std.proofs.Common.{if◌then◌else◌, nat_lt, ◌≡◌, ℕ, suc, ◌<◌, Bool, true, false, ◌||◌, List, [], ◌∷◌, ◌++◌, length, drop, refl, sym, ◌∙◌, ap, arith, Option, None, Some, MatchOption, IfSome, IsSome, is_some, slice_index_or, Bor, suc-le-suc, zero-le}
 use Rattle.std.proofs.lemmas.Bool.Decides.{nat_tests}
 use Rattle.std.specs.List.{list_any, slice_get}
 use Rattle.std.specs.Option.{option_copied, option_to_list}

@@ -1,6 +1,7 @@
 -- Hosts under constraints: those of DNS names, of e-mail addresses and of URIs (RFC 5280 4.2.1.10).
 use Rattle.std.specs.Prelude.{◌≡◌, ◌⊎◌, ℕ, ◌==◌, ◌&&◌, ◌||◌, Bool, true, false, List, [], ◌∷◌, ◌++◌, map, if◌then◌else◌}
 use Rattle.std.specs.Char.{is_ascii_alphanumeric, to_ascii_lowercase}
+use Rattle.std.specs.List.{list_all}
 
 -- '.'
 abbrev pub dot : ℕ
@@ -34,6 +35,15 @@ behind_wildcard [] = []
 abbrev pub is_dns_name : List ℕ → Bool
 is_dns_name name = is_host (behind_wildcard name)
 
+abbrev pub is_label : List ℕ → Bool
+is_label [] = false
+is_label (c ∷ rest) = list_all is_label_octet (c ∷ rest)
+
+-- itself, or where it is a wildcard a host with one label in its place (RFC 6125 6.4.3)
+abbrev pub StandsFor : List ℕ → List ℕ → Type 0
+StandsFor name host = (host ≡ name)
+    ⊎ ((label : List ℕ) × (rest : List ℕ) × (is_label label ≡ true) × (name ≡ star ∷ dot ∷ rest) × (host ≡ label ++ dot ∷ rest))
+
 -- ---- hosts within subtrees
 
 abbrev pub lower : List ℕ → List ℕ
@@ -63,3 +73,7 @@ IsWithinHost host subtree = (subtree ≡ []) ⊎ ((is_host host ≡ true) × IsH
 -- A DNS name: as a host, or with whole labels in front of the subtree.
 abbrev pub IsWithinDns : List ℕ → List ℕ → Type 0
 IsWithinDns name subtree = (subtree ≡ []) ⊎ ((is_dns_name name ≡ true) × (IsHostOf name subtree ⊎ EndsWith name (dot ∷ subtree)))
+
+-- A DNS name under exclusion: some name that it stands for is within the subtree.
+abbrev pub IsOneWithinDns : List ℕ → List ℕ → Type 0
+IsOneWithinDns name subtree = (host : List ℕ) × StandsFor name host × IsWithinDns host subtree

@@ -1,6 +1,6 @@
 -- Keys by which names are looked up: a name is within a subtree exactly where its key begins with one of the subtree's.
-use Rattle.std.specs.Prelude.{ℕ, ◌+◌, ◌==◌, Bool, true, List, [], ◌∷◌, ◌++◌, map, reverse, if◌then◌else◌}
-use Rattle.x509_constraints.specs.Host.{dot, is_dns_name, is_host, lower}
+use Rattle.std.specs.Prelude.{ℕ, ◌+◌, ◌==◌, Bool, true, false, List, [], ◌∷◌, ◌++◌, map, reverse, Option, Some, None, if◌then◌else◌}
+use Rattle.x509_constraints.specs.Host.{dot, is_dns_name, is_host, is_label_octet, lower, star}
 
 -- behind the octets of a host
 abbrev pub stop : ℕ
@@ -39,3 +39,18 @@ host_prefix subtree = if is_open subtree then turned subtree else turned subtree
 -- and those of DNS names: of such a host, or of one that ends so behind a dot
 abbrev pub dns_prefixes : List ℕ → List (List ℕ)
 dns_prefixes subtree = host_prefix subtree ∷ turned (dot ∷ subtree) ∷ []
+
+-- what stands behind the first label and its dot, if it is one; begun says that octets of it stand in front
+abbrev pub behind_label : Bool → List ℕ → Option (List ℕ)
+behind_label begun [] = None
+behind_label begun (c ∷ rest) =
+    if c == dot then (if begun then Some rest else None) else (if is_label_octet c then behind_label true rest else None)
+
+-- the key of the wildcard that stands for the subtree's host
+abbrev pub wildcard_keys : Option (List ℕ) → List (List ℕ)
+wildcard_keys None = []
+wildcard_keys (Some rest) = stopped (star ∷ dot ∷ rest) ∷ []
+
+-- where the keys of DNS names begin that stand for one within the subtree
+abbrev pub excluded_dns_prefixes : List ℕ → List (List ℕ)
+excluded_dns_prefixes subtree = dns_prefixes subtree ++ wildcard_keys (behind_label false subtree)

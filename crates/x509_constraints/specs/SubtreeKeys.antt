@@ -8,10 +8,10 @@ use Rattle.x509_ext.specs.declared.pkix.name.general_name.GeneralName.TheVariant
 use Rattle.x509_match.specs.Keys.{attribute_key}
 use Rattle.x509_name.specs.declared.attr.type_and_value.AttributeTypeAndValue.{AttributeTypeAndValue}
 use Rattle.x509_constraints.specs.AddressKeys.{address_key, address_prefixes}
-use Rattle.x509_constraints.specs.Constraints.{excluded, form_of, permitted}
+use Rattle.x509_constraints.specs.Constraints.{excluded, form_of, has_unusable, permitted}
 use Rattle.x509_constraints.specs.Directory.{directory_key}
 use Rattle.x509_constraints.specs.Email.{email_key, email_prefix}
-use Rattle.x509_constraints.specs.Keys.{dns_key, dns_prefixes, host_key, host_prefix}
+use Rattle.x509_constraints.specs.Keys.{dns_key, dns_prefixes, excluded_dns_prefixes, host_key, host_prefix}
 use Rattle.x509_constraints.specs.Prefixes.{has_prefix, upto}
 use Rattle.x509_constraints.specs.Uri.{host_of}
 
@@ -60,11 +60,22 @@ own_prefixes (UniformResourceIdentifier base) = host_prefix base ∷ []
 own_prefixes (IpAddress base) = address_prefixes base
 own_prefixes _ = []
 
+-- those of names that the subtree excludes
+abbrev pub own_excluded : GeneralName → List (List ℕ)
+own_excluded (DnsName base) = excluded_dns_prefixes base
+own_excluded base = own_prefixes base
+
 abbrev pub base_prefixes : GeneralName → List (List ℕ)
 base_prefixes base = map (λ prefix. form_of base ∷ prefix) (own_prefixes base)
 
 abbrev pub prefixes_of : List GeneralSubtree → List (List ℕ)
 prefixes_of subtrees = flat_map (λ subtree. base_prefixes subtree.base) subtrees
+
+abbrev pub excluded_by : GeneralName → List (List ℕ)
+excluded_by base = map (λ prefix. form_of base ∷ prefix) (own_excluded base)
+
+abbrev pub excluded_prefixes : List GeneralSubtree → List (List ℕ)
+excluded_prefixes subtrees = flat_map (λ subtree. excluded_by subtree.base) subtrees
 
 -- ---- forms that are constrained
 
@@ -95,8 +106,18 @@ abbrev pub permits : List ℕ → NameConstraints → Bool
 permits key set = has_none (permitted set) || has_prefix (permitted_prefixes (permitted set)) key
 
 abbrev pub excludes : List ℕ → NameConstraints → Bool
-excludes key set = has_prefix (prefixes_of (excluded set)) key
+excludes key set = has_prefix (excluded_prefixes (excluded set)) key
+
+-- ---- what is asked of sets by the form of a name
 
 -- it has a subtree of the form
 abbrev pub constrains : ℕ → NameConstraints → Bool
 constrains form set = has_form form (permitted set) || has_form form (excluded set)
+
+-- it has an excluded one
+abbrev pub excludes_form : ℕ → NameConstraints → Bool
+excludes_form form set = has_form form (excluded set)
+
+-- it has one that can't be used
+abbrev pub is_unusable_for : ℕ → NameConstraints → Bool
+is_unusable_for form set = has_unusable form (permitted set) || has_unusable form (excluded set)

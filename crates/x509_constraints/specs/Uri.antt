@@ -1,7 +1,7 @@
 -- The host of a URI (RFC 3986 3), as constraints compare it (RFC 5280 4.2.1.10).
 use Rattle.std.specs.Prelude.{ℕ, ◌==◌, ◌&&◌, ◌||◌, not, Bool, false, List, [], ◌∷◌, drop, Option, None, Some, if◌then◌else◌}
 use Rattle.std.specs.Char.{is_ascii_alphabetic, is_ascii_alphanumeric, is_ascii_digit}
-use Rattle.std.specs.List.{before_first, list_all, position_or_len}
+use Rattle.std.specs.List.{before_first, list_all, list_any, position_or_len}
 use Rattle.x509_constraints.specs.Email.{mailbox_of}
 use Rattle.x509_constraints.specs.Host.{IsWithinHost, dot, is_host}
 
@@ -45,14 +45,18 @@ is_digit_or_dot c = is_ascii_digit c || c == dot
 abbrev pub is_named : List ℕ → Bool
 is_named host = is_host host && not (list_all is_digit_or_dot host)
 
+-- more labels than one: a fully qualified domain name, as constraints ask of URIs
+abbrev pub is_qualified : List ℕ → Bool
+is_qualified host = is_named host && list_any (λ c. c == dot) host
+
 abbrev pub host_where : List ℕ → Option (List ℕ)
-host_where host = if is_named host then Some host else None
+host_where host = if is_qualified host then Some host else None
 
 abbrev pub host_behind : Option (List ℕ) → Option (List ℕ)
 host_behind None = None
 host_behind (Some rest) = host_where (host_in (before_first ends_authority rest))
 
--- the host of the URI, if it has one that is no address
+-- the host of the URI, if it has one that is fully qualified and no address
 abbrev pub host_of : List ℕ → Option (List ℕ)
 host_of uri = host_behind (behind_scheme uri)
 

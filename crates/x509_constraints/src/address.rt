@@ -1,12 +1,10 @@
 //! IP addresses (RFC 5280 4.2.1.10).
 
-ghost use Rattle.std.specs.Prelude.{◌≡◌, ◌↔◌, ◌≤◌, ◌+◌, ◌++◌, ◌∷◌, IsTrue, IfOk, OnOk, length, take};
+ghost use Rattle.std.specs.Prelude.{◌≡◌, ◌≤◌, ◌+◌, ◌++◌, ◌∷◌, IfOk, OnOk, length, take};
 ghost use Rattle.x509_constraints.specs.Address as addresses;
-ghost use Rattle.x509_constraints.specs.Address.{IsSameMasked, IsWithinAddress};
 ghost use Rattle.x509_constraints.specs.AddressKeys as address_keys;
 ghost use Rattle.x509_constraints.specs.AddressKeys.{address_key, address_prefix, address_prefixes, narrowed, octet_symbols, spread};
 
-use crate::form::Form;
 use crate::key::Key;
 use std::alloc::{AllocError, Global};
 
@@ -53,31 +51,6 @@ pub fn is_address(name: &[u8]) -> bool
     ensures { result ≡ address_keys.is_address name.now }
 {
     name.len() == 4 || name.len() == 16
-}
-
-/// Whether the two are the same where the mask has ones.
-fn are_same_masked(name: &[u8], address: &[u8], mask: &[u8]) -> bool
-    requires address { length name.now ≤ length address.now }
-    requires mask { length name.now ≤ length mask.now }
-    ensures { IsTrue result ↔ IsSameMasked name.now address.now mask.now }
-{
-    for i in 0..name.len() {
-        if name[i] & mask[i] != address[i] & mask[i] {
-            return false;
-        }
-    }
-    true
-}
-
-/// Whether the IP address is within the subtree, an address and a mask.
-pub fn is_within_address(name: &[u8], subtree: &[u8]) -> bool
-    ensures { IsTrue result ↔ IsWithinAddress name.now subtree.now }
-{
-    if !is_address_subtree(subtree) || name.len() != subtree.len() / 2 {
-        return false;
-    }
-    let (address, mask) = subtree.split_at(name.len());
-    are_same_masked(name, address, mask)
 }
 
 /// How many ones an octet of a mask begins with.
@@ -169,47 +142,33 @@ fn key_of_address(alloc: Global, len: u16, name: &[u8]) -> Result<Key, AllocErro
     Ok(key)
 }
 
-/// IP addresses (RFC 5280 4.2.1.10).
-#[derive(Drop)]
-pub struct IpAddress;
-
-impl Form for IpAddress {
-    ghost use Rattle.x509_constraints.specs.AddressLaws.{address_answers};
-
-    ghost IsWithin = { IsWithinAddress };
-
-    ghost key_of = { address_key };
-
-    ghost prefixes_of = { address_prefixes };
-
-    ghost answers = { address_answers };
-
-    fn is_within(name: &[u8], subtree: &[u8]) -> bool {
-        is_within_address(name, subtree)
+/// The key of an IP address.
+pub(crate) fn key_of_ip(alloc: Global, name: &[u8]) -> Result<Key, AllocError>
+    ensures { IfOk result (λ key. key ≡ address_key name.now) }
+{
+    match name.len() {
+        4 => key_of_address(alloc, 4, name),
+        16 => key_of_address(alloc, 16, name),
+        _ => Ok(Key::new(alloc)),
     }
+}
 
-    fn key(alloc: Global, name: &[u8]) -> Result<Key, AllocError> {
-        match name.len() {
-            4 => key_of_address(alloc, 4, name),
-            16 => key_of_address(alloc, 16, name),
-            _ => Ok(Key::new(alloc)),
-        }
+/// Adds the prefix of the IP addresses that are within the subtree, if it is one.
+pub(crate) fn push_ip_prefixes(
+    alloc: Global,
+    prefixes: &mut Vec<Key>,
+    subtree: &[u8],
+) -> Result<(), AllocError>
+    ensures { OnOk result (prefixes.new.items ≡ prefixes.old.items ++ address_prefixes subtree.now) }
+{
+    if !is_address_subtree(subtree) {
+        return Ok(());
     }
-
-    fn push_prefixes(
-        alloc: Global,
-        prefixes: &mut Vec<Key>,
-        subtree: &[u8],
-    ) -> Result<(), AllocError> {
-        if !is_address_subtree(subtree) {
-            return Ok(());
-        }
-        let prefix = if subtree.len() == 8 {
-            prefix_of_addresses(alloc, 4, subtree)?
-        } else {
-            prefix_of_addresses(alloc, 16, subtree)?
-        };
-        prefixes.push(prefix)?;
-        Ok(())
-    }
+    let prefix = if subtree.len() == 8 {
+        prefix_of_addresses(alloc, 4, subtree)?
+    } else {
+        prefix_of_addresses(alloc, 16, subtree)?
+    };
+    prefixes.push(prefix)?;
+    Ok(())
 }

@@ -6,14 +6,13 @@ ghost use Rattle.x509_constraints.specs.SubtreeKeys as keys;
 ghost use Rattle.x509_constraints.specs.SubtreeKeys.{name_key, own_key};
 ghost use Rattle.x509_constraints.specs.Uri.{host_of};
 
-use crate::address::{IpAddress, is_address};
+use crate::address::{is_address, key_of_ip};
 use crate::distinguished::key_of_name;
-use crate::email::{EmailAddress, is_mailbox};
-use crate::form::Form;
+use crate::email::{is_mailbox, key_of_email};
 use crate::gathered::form_of;
 use crate::host::is_dns_name;
 use crate::key::Key;
-use crate::turned::{DnsName, key_of_host};
+use crate::turned::{key_of_dns_name, key_of_host};
 use crate::uri::host_of_uri;
 use std::alloc::{AllocError, Global};
 use x509_ext::pkix::name::GeneralName;
@@ -50,12 +49,12 @@ fn key_in_form(alloc: Global, name: &GeneralName) -> Result<Key, AllocError>
 {
     match name {
         GeneralName::DirectoryName(name) => key_of_name(alloc, name),
-        GeneralName::DnsName(text) => DnsName::key(alloc, text.as_str().as_bytes()),
-        GeneralName::Rfc822Name(text) => EmailAddress::key(alloc, text.as_str().as_bytes()),
+        GeneralName::DnsName(text) => key_of_dns_name(alloc, text.as_str().as_bytes()),
+        GeneralName::Rfc822Name(text) => key_of_email(alloc, text.as_str().as_bytes()),
         GeneralName::UniformResourceIdentifier(text) => {
             key_of_uri(alloc, text.as_str().as_bytes())
         }
-        GeneralName::IpAddress(octets) => IpAddress::key(alloc, octets.as_bytes()),
+        GeneralName::IpAddress(octets) => key_of_ip(alloc, octets.as_bytes()),
         _ => Ok(Key::new(alloc)),
     }
 }

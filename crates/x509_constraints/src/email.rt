@@ -1,13 +1,12 @@
 //! Addresses of e-mail (RFC 5280 4.2.1.10).
 
-ghost use Rattle.std.specs.Prelude.{◌≡◌, ◌↔◌, ◌++◌, ◌∷◌, [], IsTrue, IfOk, OnOk, MatchOption, None, Some};
+ghost use Rattle.std.specs.Prelude.{◌≡◌, ◌++◌, ◌∷◌, [], false, IfOk, OnOk, MatchOption, None, Some};
 ghost use Rattle.std.specs.List.{list_all};
 ghost use Rattle.x509_constraints.specs.Email as emails;
-ghost use Rattle.x509_constraints.specs.Email.{IsMailboxWithin, IsWithinEmail, IsWithinParts, email_key, email_key_at, email_prefix, mailbox_key, mailbox_of};
+ghost use Rattle.x509_constraints.specs.Email.{email_key, email_key_at, email_prefix, mailbox_key, mailbox_of, said};
 ghost use Rattle.x509_constraints.specs.Keys.{stop, symbols};
 
-use crate::form::Form;
-use crate::host::{is_host, is_within_host};
+use crate::host::is_host;
 use crate::key::Key;
 use crate::turned::{STOP, prefix_of_hosts, push_turned, symbol};
 use std::alloc::{AllocError, Global};
@@ -33,11 +32,37 @@ fn is_local_octet(octet: u8) -> bool
     0x20 <= octet && octet <= 0x7E
 }
 
-/// Whether all octets are such.
-fn are_local_octets(octets: &[u8]) -> bool
-    ensures { result ≡ list_all emails.is_local_octet octets.now }
+/// Whether the octet is such, and neither a quote nor a backslash.
+fn is_bare_octet(octet: u8) -> bool
+    ensures { result ≡ emails.is_bare_octet octet }
 {
-    octets.iter().all(|octet| is_local_octet(*octet))
+    is_local_octet(octet) && octet != b'"' && octet != b'\\'
+}
+
+/// Whether all octets are such.
+fn are_bare_octets(octets: &[u8]) -> bool
+    ensures { result ≡ list_all emails.is_bare_octet octets.now }
+{
+    octets.iter().all(|octet| is_bare_octet(*octet))
+}
+
+/// Whether octets behind a quote end with the other one.
+fn is_quoted(octets: &[u8]) -> bool
+    ensures { result ≡ emails.is_quoted false octets.now }
+{
+    let mut escaped = false;
+    let mut left = octets;
+    while let [first, behind @ ..] = left {
+        if !escaped && *first == b'"' {
+            return behind.is_empty();
+        }
+        if !is_local_octet(*first) {
+            return false;
+        }
+        escaped = !escaped && *first == b'\\';
+        left = behind;
+    }
+    false
 }
 
 /// Whether a mailbox can have the local part.
@@ -46,12 +71,14 @@ fn is_local(local: &[u8]) -> bool
 {
     match local {
         [] => false,
-        [_, ..] => are_local_octets(local),
+        [b'"', behind @ ..] => is_quoted(behind),
+        _ => are_bare_octets(local),
     }
 }
 
-/// Whether the octets are an address of e-mail that is compared: a local part, an '@', and a host. The local part isn't
-/// empty, and has printed characters of ASCII and spaces alone.
+/// Whether the octets are an address of e-mail that is compared: a local part, an '@', and a host. The local part has
+/// printed characters of ASCII and spaces alone. It is a quoted string, or isn't empty and has no quote or backslash (RFC
+/// 5321 4.1.2).
 pub fn is_mailbox(name: &[u8]) -> bool
     ensures { result ≡ emails.is_mailbox name.now }
 {
@@ -59,35 +86,6 @@ pub fn is_mailbox(name: &[u8]) -> bool
         Some((local, host)) => is_local(local) && is_host(host),
         None => false,
     }
-}
-
-/// Whether the mailbox is that of the subtree, if it is one, and else whether its host is within the subtree.
-fn is_within_parts(local: &[u8], host: &[u8], subtree: &[u8]) -> bool
-    ensures { IsTrue result ↔ IsWithinParts local.now host.now subtree.now (mailbox_of subtree.now) }
-{
-    match split_mailbox(subtree) {
-        Some((own_local, own_host)) => { local == own_local && host.eq_ignore_ascii_case(own_host) }
-        None => is_within_host(host, subtree),
-    }
-}
-
-/// Whether the address has an '@' and is within the subtree.
-fn is_mailbox_within(name: &[u8], subtree: &[u8]) -> bool
-    ensures { IsTrue result ↔ IsMailboxWithin (mailbox_of name.now) subtree.now }
-{
-    match split_mailbox(name) {
-        Some((local, host)) => is_within_parts(local, host, subtree),
-        None => false,
-    }
-}
-
-/// Whether the address of e-mail is within the subtree: an empty one has all, one with an '@' that mailbox, and any other
-/// the mailboxes of the hosts that are within it. The case of the local part makes a difference. Octets that are no
-/// mailbox ([`is_mailbox`]) are within an empty subtree alone.
-pub fn is_within_email(name: &[u8], subtree: &[u8]) -> bool
-    ensures { IsTrue result ↔ IsWithinEmail name.now subtree.now }
-{
-    subtree.is_empty() || (is_mailbox(name) && is_mailbox_within(name, subtree))
 }
 
 /// Adds the symbols of the octets, and a stop.
@@ -100,6 +98,36 @@ pub(crate) fn push_stopped(key: &mut Key, octets: &[u8]) -> Result<(), AllocErro
     key.push(STOP)
 }
 
+/// Adds the symbols of what stands behind a quote, without backslashes and the other quote.
+fn push_said_behind(key: &mut Key, octets: &[u8]) -> Result<(), AllocError>
+    ensures { OnOk result (key.new ≡ key.old ++ symbols (emails.said_behind false octets.now)) }
+{
+    let mut escaped = false;
+    let mut left = octets;
+    while let [first, behind @ ..] = left {
+        if !escaped && *first == b'"' {
+            return Ok(());
+        }
+        escaped = !escaped && *first == b'\\';
+        if !escaped {
+            key.push(symbol(*first))?;
+        }
+        left = behind;
+    }
+    Ok(())
+}
+
+/// Adds the symbols of the local part without quotes, and a stop.
+fn push_said(key: &mut Key, local: &[u8]) -> Result<(), AllocError>
+    ensures { OnOk result (key.new ≡ key.old ++ (symbols (said local.now) ++ stop ∷ [])) }
+{
+    if let [b'"', behind @ ..] = local {
+        push_said_behind(key, behind)?;
+        return key.push(STOP);
+    }
+    push_stopped(key, local)
+}
+
 /// The key of a mailbox.
 fn key_of_mailbox(alloc: Global, local: &[u8], host: &[u8]) -> Result<Key, AllocError>
     ensures { IfOk result (λ key. key ≡ mailbox_key local.now host.now) }
@@ -107,7 +135,7 @@ fn key_of_mailbox(alloc: Global, local: &[u8], host: &[u8]) -> Result<Key, Alloc
     let mut key = Key::new(alloc);
     push_turned(&mut key, host)?;
     key.push(STOP)?;
-    push_stopped(&mut key, local)?;
+    push_said(&mut key, local)?;
     Ok(key)
 }
 
@@ -121,43 +149,23 @@ fn key_of_parts(alloc: Global, name: &[u8]) -> Result<Key, AllocError>
     }
 }
 
-/// Addresses of e-mail (RFC 5280 4.2.1.10).
-#[derive(Drop)]
-pub struct EmailAddress;
-
-impl Form for EmailAddress {
-    ghost use Rattle.x509_constraints.specs.EmailLaws.{email_answers};
-
-    ghost IsWithin = { IsWithinEmail };
-
-    ghost key_of = { email_key };
-
-    ghost prefixes_of = { λ subtree. email_prefix subtree ∷ [] };
-
-    ghost answers = { email_answers };
-
-    fn is_within(name: &[u8], subtree: &[u8]) -> bool {
-        is_within_email(name, subtree)
+/// The key of an address of e-mail.
+pub(crate) fn key_of_email(alloc: Global, name: &[u8]) -> Result<Key, AllocError>
+    ensures { IfOk result (λ key. key ≡ email_key name.now) }
+{
+    if is_mailbox(name) {
+        key_of_parts(alloc, name)
+    } else {
+        Ok(Key::new(alloc))
     }
+}
 
-    fn key(alloc: Global, name: &[u8]) -> Result<Key, AllocError> {
-        if is_mailbox(name) {
-            key_of_parts(alloc, name)
-        } else {
-            Ok(Key::new(alloc))
-        }
-    }
-
-    fn push_prefixes(
-        alloc: Global,
-        prefixes: &mut Vec<Key>,
-        subtree: &[u8],
-    ) -> Result<(), AllocError> {
-        let prefix = match split_mailbox(subtree) {
-            Some((local, host)) => key_of_mailbox(alloc, local, host)?,
-            None => prefix_of_hosts(alloc, subtree)?,
-        };
-        prefixes.push(prefix)?;
-        Ok(())
+/// The prefix of the addresses that are within the subtree.
+pub(crate) fn prefix_of_emails(alloc: Global, subtree: &[u8]) -> Result<Key, AllocError>
+    ensures { IfOk result (λ key. key ≡ email_prefix subtree.now) }
+{
+    match split_mailbox(subtree) {
+        Some((local, host)) => key_of_mailbox(alloc, local, host),
+        None => prefix_of_hosts(alloc, subtree),
     }
 }

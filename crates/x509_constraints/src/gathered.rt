@@ -5,16 +5,15 @@ ghost use Rattle.x509_constraints.specs.Constraints as constraints;
 ghost use Rattle.x509_constraints.specs.Prefixes.{has_prefix};
 ghost use Rattle.x509_constraints.specs.Stacks.{in_all, in_some};
 ghost use Rattle.x509_constraints.specs.SubtreeKeys as keys;
-ghost use Rattle.x509_constraints.specs.SubtreeKeys.{distinguished_key, has_none, open_form, own_prefixes, permitted_prefixes, prefixes_of};
+ghost use Rattle.x509_constraints.specs.SubtreeKeys.{distinguished_key, excluded_prefixes, has_none, open_form, own_excluded, own_prefixes, permitted_prefixes, prefixes_of};
 
-use crate::address::IpAddress;
+use crate::address::push_ip_prefixes;
 use crate::distinguished::key_of_name;
-use crate::email::EmailAddress;
-use crate::form::Form;
+use crate::email::prefix_of_emails;
 use crate::key::Key;
 use crate::prefixes::Prefixes;
 use crate::stacks::{push_alternative, push_required};
-use crate::turned::{DnsName, Host};
+use crate::turned::{prefix_of_hosts, push_dns_prefixes, push_excluded_dns_prefixes};
 use std::alloc::{AllocError, Global};
 use x509_ext::pkix::constraints::name::GeneralSubtree;
 use x509_ext::pkix::name::GeneralName;
@@ -73,20 +72,34 @@ fn prefixes_of_base(alloc: Global, base: &GeneralName) -> Result<Vec<Key>, Alloc
     match base {
         GeneralName::DirectoryName(name) => push_name(alloc, &mut prefixes, name)?,
         GeneralName::DnsName(text) => {
-            DnsName::push_prefixes(alloc, &mut prefixes, text.as_str().as_bytes())?;
+            push_dns_prefixes(alloc, &mut prefixes, text.as_str().as_bytes())?;
         }
         GeneralName::Rfc822Name(text) => {
-            EmailAddress::push_prefixes(alloc, &mut prefixes, text.as_str().as_bytes())?;
+            prefixes.push(prefix_of_emails(alloc, text.as_str().as_bytes())?)?;
         }
         GeneralName::UniformResourceIdentifier(text) => {
-            Host::push_prefixes(alloc, &mut prefixes, text.as_str().as_bytes())?;
+            prefixes.push(prefix_of_hosts(alloc, text.as_str().as_bytes())?)?;
         }
         GeneralName::IpAddress(octets) => {
-            IpAddress::push_prefixes(alloc, &mut prefixes, octets.as_bytes())?;
+            push_ip_prefixes(alloc, &mut prefixes, octets.as_bytes())?;
         }
         _ => {}
     }
     Ok(prefixes)
+}
+
+/// Those of names that the subtree excludes.
+fn excluded_by_base(alloc: Global, base: &GeneralName) -> Result<Vec<Key>, AllocError>
+    ensures { IfOk result (λ prefixes. prefixes.items ≡ own_excluded base.now) }
+{
+    match base {
+        GeneralName::DnsName(text) => {
+            let mut prefixes: Vec<Key> = Vec::new(alloc);
+            push_excluded_dns_prefixes(alloc, &mut prefixes, text.as_str().as_bytes())?;
+            Ok(prefixes)
+        }
+        _ => prefixes_of_base(alloc, base),
+    }
 }
 
 /// Adds the keys, each behind the number of a form.
@@ -108,6 +121,18 @@ fn prefixes_of(alloc: Global, subtrees: &[GeneralSubtree]) -> Result<Vec<Key>, A
     let mut prefixes: Vec<Key> = Vec::new(alloc);
     for subtree in subtrees {
         let own = prefixes_of_base(alloc, &subtree.base)?;
+        push_behind(form_of(&subtree.base), &mut prefixes, own)?;
+    }
+    Ok(prefixes)
+}
+
+/// Those of names that the subtrees exclude.
+fn excluded_prefixes(alloc: Global, subtrees: &[GeneralSubtree]) -> Result<Vec<Key>, AllocError>
+    ensures { IfOk result (λ prefixes. prefixes.items ≡ excluded_prefixes subtrees.now) }
+{
+    let mut prefixes: Vec<Key> = Vec::new(alloc);
+    for subtree in subtrees {
+        let own = excluded_by_base(alloc, &subtree.base)?;
         push_behind(form_of(&subtree.base), &mut prefixes, own)?;
     }
     Ok(prefixes)
@@ -165,12 +190,12 @@ pub(crate) fn add_excluded(
     sets: &mut Vec<Prefixes>,
     subtrees: &[GeneralSubtree],
 ) -> Result<(), AllocError>
-    ensures { OnOk result ((key : List ℕ) → in_some sets.new.items key ≡ (in_some sets.old.items key || has_prefix (prefixes_of subtrees.now) key)) }
+    ensures { OnOk result ((key : List ℕ) → in_some sets.new.items key ≡ (in_some sets.old.items key || has_prefix (excluded_prefixes subtrees.now) key)) }
 {
     if subtrees.is_empty() {
         return Ok(());
     }
-    let prefixes = prefixes_of(alloc, subtrees)?;
+    let prefixes = excluded_prefixes(alloc, subtrees)?;
     let set = Prefixes::new(alloc, prefixes)?;
     push_alternative(alloc, sets, set)
 }

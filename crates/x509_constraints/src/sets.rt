@@ -1,19 +1,20 @@
 //! The sets of subtrees that apply to a certificate (RFC 5280 6.1.3 (b), (c), 6.1.4 (g)).
 
-ghost use Rattle.std.specs.Prelude.{◌≡◌, ◌&&◌, ◌||◌, ◌<◌, not, false, List, ℕ, bytes_eq, slice_index_or};
+ghost use Rattle.std.specs.Prelude.{◌≡◌, ◌==◌, ◌&&◌, ◌||◌, ◌<◌, not, false, List, ℕ, bytes_eq, slice_index_or};
 ghost use Rattle.x509_name.specs.AttributeTypes as types;
 ghost use Rattle.x509_constraints.specs.Constraints as constraints;
-ghost use Rattle.x509_constraints.specs.Prefixes.{has_prefix};
-ghost use Rattle.x509_constraints.specs.Stacks as stacks;
+ghost use Rattle.x509_constraints.specs.Notes.{notes};
 ghost use Rattle.x509_constraints.specs.SubtreeKeys as keys;
 
 use crate::comparable::{is_comparable, key_of};
 use crate::distinguished::key_of_name;
-use crate::email::{EmailAddress, is_mailbox};
-use crate::form::Form;
+use crate::email::{is_mailbox, key_of_email};
 use crate::gathered::{add_excluded, add_permitted, form_of, has_form};
 use crate::key::Key;
+use crate::marks::{add_marks, has_marks, has_marks_in_name};
 use crate::prefixes::Prefixes;
+use crate::stacks::{in_all, in_some};
+use crate::usable::has_unusable;
 use std::alloc::{AllocError, Global};
 use x509_der::Tag;
 use x509_ext::pkix::constraints::name::{GeneralSubtree, GeneralSubtrees};
@@ -23,6 +24,9 @@ use x509_name::attr::AttributeTypeAndValue;
 use x509_name::attr::attribute_types::EMAIL_ADDRESS;
 use x509_name::name::{Name, RelativeDistinguishedName};
 
+/// The form of URIs.
+const URI: u16 = 6;
+
 /// The name constraints that apply to a certificate: the initial ones, and those of the certificates above it. They are
 /// kept as sorted sets of keys, so that a name is asked by a few searches. To apply n subtrees takes O(n log n) steps or a
 /// logarithm more, whatever sets they come in.
@@ -30,7 +34,12 @@ use x509_name::name::{Name, RelativeDistinguishedName};
 pub struct ConstraintSets {
     permitted: Vec<Prefixes>,
     excluded: Vec<Prefixes>,
+
+    /// Of excluded directory names, what keeps away attributes that can't be compared.
+    marks: Vec<Prefixes>,
     constrained: [bool; 9],
+    excluding: [bool; 9],
+    unusable: [bool; 9],
     is_whole: bool,
 }
 
@@ -52,28 +61,67 @@ fn constrains(form: u16, constraints: &NameConstraints) -> bool
         || has_form(form, listed(&constraints.excluded_subtrees))
 }
 
-/// Whether the form is constrained with this set too.
-fn is_constrained(before: bool, form: u16, constraints: &NameConstraints) -> bool
-    ensures { result ≡ (before || keys.constrains form constraints.now) }
+/// Whether a set has an excluded subtree of the form.
+fn excludes_form(form: u16, constraints: &NameConstraints) -> bool
+    ensures { result ≡ keys.excludes_form form constraints.now }
 {
-    before || constrains(form, constraints)
+    has_form(form, listed(&constraints.excluded_subtrees))
 }
 
-/// The forms that are constrained with this set too.
-fn constrained_with(before: &[bool; 9], constraints: &NameConstraints) -> [bool; 9]
+/// Whether a set has a subtree of the form that can't be used.
+fn is_unusable_for(form: u16, constraints: &NameConstraints) -> bool
+    ensures { result ≡ keys.is_unusable_for form constraints.now }
+{
+    has_unusable(form, listed(&constraints.permitted_subtrees))
+        || has_unusable(form, listed(&constraints.excluded_subtrees))
+}
+
+/// What is noted of the forms of names in a set.
+#[derive(Clone, Copy)]
+enum Note {
+    /// There is a subtree of the form.
+    Constrained,
+
+    /// There is an excluded one.
+    Excluding,
+
+    /// There is one that can't be used.
+    Unusable,
+}
+
+/// Whether it is to be noted of the form.
+fn is_noted(note: Note, form: u16, constraints: &NameConstraints) -> bool
+    ensures { result ≡ notes note form constraints.now }
+{
+    match note {
+        Note::Constrained => constrains(form, constraints),
+        Note::Excluding => excludes_form(form, constraints),
+        Note::Unusable => is_unusable_for(form, constraints),
+    }
+}
+
+/// Whether it is noted of the form with this set too.
+fn is_noted_now(before: bool, note: Note, form: u16, constraints: &NameConstraints) -> bool
+    ensures { result ≡ (before || notes note form constraints.now) }
+{
+    before || is_noted(note, form, constraints)
+}
+
+/// The forms of which it is noted with this set too.
+fn noted_with(before: &[bool; 9], note: Note, constraints: &NameConstraints) -> [bool; 9]
     ensures { (form : ℕ) → form < 9 → slice_index_or result form false
-        ≡ (slice_index_or before.now form false || keys.constrains form constraints.now) }
+        ≡ (slice_index_or before.now form false || notes note form constraints.now) }
 {
     [
-        is_constrained(before[0], 0, constraints),
-        is_constrained(before[1], 1, constraints),
-        is_constrained(before[2], 2, constraints),
-        is_constrained(before[3], 3, constraints),
-        is_constrained(before[4], 4, constraints),
-        is_constrained(before[5], 5, constraints),
-        is_constrained(before[6], 6, constraints),
-        is_constrained(before[7], 7, constraints),
-        is_constrained(before[8], 8, constraints),
+        is_noted_now(before[0], note, 0, constraints),
+        is_noted_now(before[1], note, 1, constraints),
+        is_noted_now(before[2], note, 2, constraints),
+        is_noted_now(before[3], note, 3, constraints),
+        is_noted_now(before[4], note, 4, constraints),
+        is_noted_now(before[5], note, 5, constraints),
+        is_noted_now(before[6], note, 6, constraints),
+        is_noted_now(before[7], note, 7, constraints),
+        is_noted_now(before[8], note, 8, constraints),
     ]
 }
 
@@ -94,23 +142,9 @@ fn address_of(tag: Tag, octets: &[u8]) -> &[u8]
     }
 }
 
-/// Whether the key begins with one of each set.
-fn in_all(sets: &[Prefixes], key: &Key) -> bool
-    ensures { result ≡ stacks.in_all sets.now key.now }
-{
-    sets.iter().all(|set| set.has_prefix_of(key))
-}
-
-/// Whether the key begins with one of some set.
-fn in_some(sets: &[Prefixes], key: &Key) -> bool
-    ensures { result ≡ stacks.in_some sets.now key.now }
-{
-    sets.iter().any(|set| set.has_prefix_of(key))
-}
-
 impl ConstraintSets {
-    ghost use Rattle.std.specs.Prelude.{◌≡◌, ◌↔◌, ◌++◌, ◌∷◌, ◌&&◌, ◌<◌, not, true, [], All, List, IfOk, IsTrue, MatchOption, OnOk, option_copied};
-    ghost use Rattle.x509_constraints.specs.Applied.{AreApplied, HaveNoSubtrees};
+    ghost use Rattle.std.specs.Prelude.{◌≡◌, ◌↔◌, ◌++◌, ◌∷◌, ◌&&◌, ◌||◌, ◌==◌, ◌<◌, not, true, false, [], All, List, IfOk, IsTrue, MatchOption, OnErr, OnOk, option_copied, slice_index_or};
+    ghost use Rattle.x509_constraints.specs.Applied.{AllowsNone, AreApplied, IsAskedByKey};
     ghost use Rattle.x509_constraints.specs.Constraints.{AreAllowed, IsAllowed, IsAttributeAllowed, form_of, is_comparable, names_asked, others_asked, subject_asked};
     ghost use Rattle.x509_constraints.specs.Stacks.{in_all, in_some};
     ghost use Rattle.x509_ext.specs.declared.pkix.name.general_name.GeneralName.{GeneralName};
@@ -124,7 +158,10 @@ impl ConstraintSets {
         ConstraintSets {
             permitted: Vec::new(alloc),
             excluded: Vec::new(alloc),
+            marks: Vec::new(alloc),
             constrained: [false; 9],
+            excluding: [false; 9],
+            unusable: [false; 9],
             is_whole: true,
         }
     }
@@ -135,7 +172,9 @@ impl ConstraintSets {
     ///
     /// When out of memory. Then no name is allowed any more.
     pub fn add(&mut self, alloc: Global, constraints: &NameConstraints) -> Result<(), AllocError>
-        ensures { (sets : List NameConstraints) → AreApplied self.old sets → OnOk result (AreApplied self.new (sets ++ constraints.now ∷ [])) }
+        ensures applied { (sets : List NameConstraints) → AreApplied self.old sets → OnOk result (AreApplied self.new (sets ++ constraints.now ∷ [])) }
+        ensures refused { OnErr result (AllowsNone self.new) }
+        ensures closed { AllowsNone self.old → AllowsNone self.new }
     {
         let is_whole = self.is_whole;
         self.is_whole = false;
@@ -149,24 +188,40 @@ impl ConstraintSets {
             &mut self.excluded,
             listed(&constraints.excluded_subtrees),
         )?;
-        self.constrained = constrained_with(&self.constrained, constraints);
+        add_marks(
+            alloc,
+            &mut self.marks,
+            listed(&constraints.excluded_subtrees),
+        )?;
+        self.constrained = noted_with(&self.constrained, Note::Constrained, constraints);
+        self.excluding = noted_with(&self.excluding, Note::Excluding, constraints);
+        self.unusable = noted_with(&self.unusable, Note::Unusable, constraints);
         self.is_whole = is_whole;
         Ok(())
+    }
+
+    /// Whether a name of the form isn't allowed because it can't be compared: where a subtree of the form is excluded, and
+    /// of URIs where one is permitted too (RFC 5280 4.2.1.10).
+    fn asks_to_compare(&self, form: u16) -> bool
+        requires { form < 9 }
+        ensures { result ≡ (slice_index_or self.now.excluding form false || (form == 6)) }
+    {
+        self.excluding[usize::from(form)] || form == URI
     }
 
     /// The answer for a name of the form, where it needs no key.
     fn known(&self, form: u16, can_be_compared: bool) -> Option<bool>
         requires { form < 9 }
-        ensures same { (sets : List NameConstraints) (name : GeneralName) → AreApplied self.now sets → form_of name ≡ form
-            → is_comparable name ≡ can_be_compared → MatchOption result (can_be_compared ≡ true) (λ b. IsTrue b ↔ IsAllowed sets name) }
+        ensures { (sets : List NameConstraints) (name : GeneralName) → AreApplied self.now sets → form_of name ≡ form
+            → is_comparable name ≡ can_be_compared → MatchOption result (IsAskedByKey sets name) (λ b. IsTrue b ↔ IsAllowed sets name) }
     {
-        if !self.is_whole {
-            return Some(false);
-        }
         if !self.constrained[usize::from(form)] {
             return Some(true);
         }
-        if !can_be_compared {
+        if self.unusable[usize::from(form)] {
+            return Some(false);
+        }
+        if !can_be_compared && self.asks_to_compare(form) {
             return Some(false);
         }
         None
@@ -179,18 +234,28 @@ impl ConstraintSets {
         in_all(self.permitted.as_slice(), key) && !in_some(self.excluded.as_slice(), key)
     }
 
-    /// Whether all sets allow the name (RFC 5280 6.1.3 (b), (c)). Where its form is constrained, a name that can't be
-    /// compared isn't allowed.
+    /// Whether all sets allow the name (RFC 5280 6.1.3 (b), (c)). A name that can't be compared isn't allowed where
+    /// subtrees of its form are excluded, and elsewhere permitted by an empty subtree alone; of directory names each attribute
+    /// is asked, where an excluded one has its type at that place. A wildcard is excluded where a host that it stands for is. A
+    /// URI without the name of a host isn't allowed where URIs are constrained, nor is any name where a subtree of its form can't
+    /// be used.
     ///
     /// # Errors
     ///
     /// When out of memory.
     pub fn allows(&self, alloc: Global, name: &GeneralName) -> Result<bool, AllocError>
-        ensures { (sets : List NameConstraints) → AreApplied self.now sets → IfOk result (λ b. IsTrue b ↔ IsAllowed sets name.now) }
+        ensures same { (sets : List NameConstraints) → AreApplied self.now sets → IfOk result (λ b. IsTrue b ↔ IsAllowed sets name.now) }
+        ensures closed { AllowsNone self.now → IfOk result (λ b. b ≡ false) }
     {
+        if !self.is_whole {
+            return Ok(false);
+        }
         match self.known(form_of(name), is_comparable(name)) {
             Some(known) => Ok(known),
             None => {
+                if has_marks(alloc, self.marks.as_slice(), name)? {
+                    return Ok(false);
+                }
                 let key = key_of(alloc, name)?;
                 Ok(self.allows_key(&key))
             }
@@ -204,6 +269,9 @@ impl ConstraintSets {
         match self.known(4, true) {
             Some(known) => Ok(known),
             None => {
+                if has_marks_in_name(alloc, self.marks.as_slice(), subject)? {
+                    return Ok(false);
+                }
                 let own = key_of_name(alloc, subject)?;
                 let key = own.behind(4)?;
                 Ok(self.allows_key(&key))
@@ -218,7 +286,7 @@ impl ConstraintSets {
         match self.known(1, is_mailbox(address)) {
             Some(known) => Ok(known),
             None => {
-                let own = EmailAddress::key(alloc, address)?;
+                let own = key_of_email(alloc, address)?;
                 let key = own.behind(1)?;
                 Ok(self.allows_key(&key))
             }
@@ -326,10 +394,11 @@ impl ConstraintSets {
         subject: &Name,
         alternative: Option<&SubjectAltName>,
     ) -> Result<bool, AllocError>
-        ensures { (sets : List NameConstraints) → AreApplied self.now sets
+        ensures same { (sets : List NameConstraints) → AreApplied self.now sets
             → IfOk result (λ b. IsTrue b ↔ AreAllowed sets (names_asked subject.now (option_copied alternative.entry))) }
+        ensures closed { AllowsNone self.now → IfOk result (λ b. b ≡ false) }
     {
-        if !self.allows_some_subject(alloc, subject)? {
+        if !self.is_whole || !self.allows_some_subject(alloc, subject)? {
             return Ok(false);
         }
         self.allows_others(alloc, subject, alternative)

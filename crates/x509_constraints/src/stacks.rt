@@ -3,10 +3,25 @@
 ghost use Rattle.std.specs.Prelude.{◌≡◌, ◌++◌, ◌&&◌, ◌||◌, ◌<◌, List, ℕ, IfOk, OnOk, OnSome, length};
 ghost use Rattle.std.specs.Option.{option_to_list};
 ghost use Rattle.x509_constraints.specs.Prefixes.{has_prefix};
-ghost use Rattle.x509_constraints.specs.Stacks.{in_all, in_some};
+ghost use Rattle.x509_constraints.specs.Stacks as stacks;
 
+use crate::key::Key;
 use crate::prefixes::Prefixes;
 use std::alloc::{AllocError, Global};
+
+/// Whether the key begins with one of each set.
+pub(crate) fn in_all(sets: &[Prefixes], key: &Key) -> bool
+    ensures { result ≡ stacks.in_all sets.now key.now }
+{
+    sets.iter().all(|set| set.has_prefix_of(key))
+}
+
+/// Whether the key begins with one of some set.
+pub(crate) fn in_some(sets: &[Prefixes], key: &Key) -> bool
+    ensures { result ≡ stacks.in_some sets.now key.now }
+{
+    sets.iter().any(|set| set.has_prefix_of(key))
+}
 
 /// Takes the last set if it is at most about twice as large.
 fn pop_small(sets: &mut Vec<Prefixes>, len: usize) -> Option<Prefixes>
@@ -26,7 +41,7 @@ pub(crate) fn push_required(
     sets: &mut Vec<Prefixes>,
     set: Prefixes,
 ) -> Result<(), AllocError>
-    ensures { OnOk result ((key : List ℕ) → in_all sets.new.items key ≡ (in_all sets.old.items key && has_prefix set key)) }
+    ensures { OnOk result ((key : List ℕ) → stacks.in_all sets.new.items key ≡ (stacks.in_all sets.old.items key && has_prefix set key)) }
 {
     let mut top = set;
     while let Some(below) = pop_small(sets, top.len()) {
@@ -42,7 +57,7 @@ pub(crate) fn push_alternative(
     sets: &mut Vec<Prefixes>,
     set: Prefixes,
 ) -> Result<(), AllocError>
-    ensures { OnOk result ((key : List ℕ) → in_some sets.new.items key ≡ (in_some sets.old.items key || has_prefix set key)) }
+    ensures { OnOk result ((key : List ℕ) → stacks.in_some sets.new.items key ≡ (stacks.in_some sets.old.items key || has_prefix set key)) }
 {
     let mut top = set;
     while let Some(below) = pop_small(sets, top.len()) {

@@ -1,12 +1,11 @@
 //! Hosts as keys: turned round, so that a host begins with those above it.
 
-ghost use Rattle.std.specs.Prelude.{◌≡◌, ◌+◌, ◌++◌, ◌∷◌, [], OnOk, IfOk};
-ghost use Rattle.x509_constraints.specs.Host.{dot};
+ghost use Rattle.std.specs.Prelude.{◌≡◌, ◌+◌, ◌++◌, ◌∷◌, [], false, OnOk, IfOk, MatchOption, None, Some};
+ghost use Rattle.x509_constraints.specs.Host.{dot, star};
 ghost use Rattle.x509_constraints.specs.Keys as keys;
-ghost use Rattle.x509_constraints.specs.Keys.{dns_key, dns_prefixes, host_key, host_prefix, stop, stopped, turned};
+ghost use Rattle.x509_constraints.specs.Keys.{dns_key, dns_prefixes, excluded_dns_prefixes, host_key, host_prefix, stop, stopped, turned};
 
-use crate::form::Form;
-use crate::host::{is_dns_name, is_host, is_within_dns, is_within_host};
+use crate::host::{is_dns_name, is_host, is_label_octet};
 use crate::key::Key;
 use std::alloc::{AllocError, Global};
 
@@ -97,71 +96,72 @@ pub(crate) fn key_of_dns_name(alloc: Global, name: &[u8]) -> Result<Key, AllocEr
     }
 }
 
-/// Hosts of URIs (RFC 5280 4.2.1.10).
-#[derive(Drop)]
-pub struct Host;
-
-impl Form for Host {
-    ghost use Rattle.x509_constraints.specs.Host.{IsWithinHost};
-    ghost use Rattle.x509_constraints.specs.KeyLaws.{host_key_answers};
-
-    ghost IsWithin = { IsWithinHost };
-
-    ghost key_of = { host_key };
-
-    ghost prefixes_of = { λ subtree. host_prefix subtree ∷ [] };
-
-    ghost answers = { host_key_answers };
-
-    fn is_within(name: &[u8], subtree: &[u8]) -> bool {
-        is_within_host(name, subtree)
+/// What stands behind the first label and its dot, if it is one.
+fn behind_label(subtree: &[u8]) -> Option<&[u8]>
+    ensures { MatchOption result (keys.behind_label false subtree.now ≡ None) (λ rest. keys.behind_label false subtree.now ≡ Some rest.now) }
+{
+    let mut begun = false;
+    let mut left = subtree;
+    while let [first, behind @ ..] = left {
+        if *first == b'.' {
+            if begun {
+                return Some(behind);
+            }
+            return None;
+        }
+        if !is_label_octet(*first) {
+            return None;
+        }
+        begun = true;
+        left = behind;
     }
-
-    fn key(alloc: Global, name: &[u8]) -> Result<Key, AllocError> {
-        key_of_host(alloc, name)
-    }
-
-    fn push_prefixes(
-        alloc: Global,
-        prefixes: &mut Vec<Key>,
-        subtree: &[u8],
-    ) -> Result<(), AllocError> {
-        prefixes.push(prefix_of_hosts(alloc, subtree)?)?;
-        Ok(())
-    }
+    None
 }
 
-/// DNS names (RFC 5280 4.2.1.10).
-#[derive(Drop)]
-pub struct DnsName;
+/// The key of the wildcard in front of the host.
+fn wildcard(alloc: Global, rest: &[u8]) -> Result<Key, AllocError>
+    ensures { IfOk result (λ key. key ≡ keys.stopped (star ∷ dot ∷ rest.now)) }
+{
+    let mut key = Key::new(alloc);
+    push_turned(&mut key, rest)?;
+    key.push(symbol(b'.'))?;
+    key.push(symbol(b'*'))?;
+    key.push(STOP)?;
+    Ok(key)
+}
 
-impl Form for DnsName {
-    ghost use Rattle.x509_constraints.specs.Host.{IsWithinDns};
-    ghost use Rattle.x509_constraints.specs.KeyLaws.{dns_answers};
+/// Adds the prefixes of the DNS names that are within the subtree.
+pub(crate) fn push_dns_prefixes(
+    alloc: Global,
+    prefixes: &mut Vec<Key>,
+    subtree: &[u8],
+) -> Result<(), AllocError>
+    ensures { OnOk result (prefixes.new.items ≡ prefixes.old.items ++ dns_prefixes subtree.now) }
+{
+    prefixes.push(prefix_of_hosts(alloc, subtree)?)?;
+    prefixes.push(prefix_of_hosts_below(alloc, subtree)?)?;
+    Ok(())
+}
 
-    ghost IsWithin = { IsWithinDns };
+/// Adds the key of the wildcard that stands for the host of the subtree, if one does.
+fn push_wildcard(alloc: Global, prefixes: &mut Vec<Key>, subtree: &[u8]) -> Result<(), AllocError>
+    ensures { OnOk result (prefixes.new.items ≡ prefixes.old.items ++ keys.wildcard_keys (keys.behind_label false subtree.now)) }
+{
+    let Some(rest) = behind_label(subtree) else {
+        return Ok(());
+    };
+    prefixes.push(wildcard(alloc, rest)?)?;
+    Ok(())
+}
 
-    ghost key_of = { dns_key };
-
-    ghost prefixes_of = { dns_prefixes };
-
-    ghost answers = { dns_answers };
-
-    fn is_within(name: &[u8], subtree: &[u8]) -> bool {
-        is_within_dns(name, subtree)
-    }
-
-    fn key(alloc: Global, name: &[u8]) -> Result<Key, AllocError> {
-        key_of_dns_name(alloc, name)
-    }
-
-    fn push_prefixes(
-        alloc: Global,
-        prefixes: &mut Vec<Key>,
-        subtree: &[u8],
-    ) -> Result<(), AllocError> {
-        prefixes.push(prefix_of_hosts(alloc, subtree)?)?;
-        prefixes.push(prefix_of_hosts_below(alloc, subtree)?)?;
-        Ok(())
-    }
+/// Adds the prefixes of the DNS names that stand for one within the subtree.
+pub(crate) fn push_excluded_dns_prefixes(
+    alloc: Global,
+    prefixes: &mut Vec<Key>,
+    subtree: &[u8],
+) -> Result<(), AllocError>
+    ensures { OnOk result (prefixes.new.items ≡ prefixes.old.items ++ excluded_dns_prefixes subtree.now) }
+{
+    push_dns_prefixes(alloc, prefixes, subtree)?;
+    push_wildcard(alloc, prefixes, subtree)
 }

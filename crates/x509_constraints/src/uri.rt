@@ -1,13 +1,14 @@
 //! URIs (RFC 5280 4.2.1.10), by their hosts.
 
-ghost use Rattle.std.specs.Prelude.{◌≡◌, ◌↔◌, ◌≤◌, ◌==◌, not, IsTrue, MatchOption, None, Some, length};
-ghost use Rattle.std.specs.List.{list_all, position_or_len};
+ghost use Rattle.std.specs.Prelude.{◌≡◌, ◌≤◌, ◌==◌, not, MatchOption, None, Some, length};
+ghost use Rattle.std.specs.List.{list_all, list_any, position_or_len};
 ghost use Rattle.x509_constraints.specs.Email.{mailbox_of};
+ghost use Rattle.x509_constraints.specs.Host.{dot};
 ghost use Rattle.x509_constraints.specs.Uri as uris;
-ghost use Rattle.x509_constraints.specs.Uri.{IsWithinUri, host_of};
+ghost use Rattle.x509_constraints.specs.Uri.{host_of};
 
 use crate::email::split_mailbox;
-use crate::host::{is_host, is_within_host};
+use crate::host::is_host;
 
 /// Whether the octet may stand in a scheme (RFC 3986 3.1).
 fn is_scheme_octet(octet: u8) -> bool
@@ -109,6 +110,13 @@ fn is_digits_and_dots(host: &[u8]) -> bool
     host.iter().all(|octet| is_digit_or_dot(*octet))
 }
 
+/// Whether the host has a dot.
+fn has_dot(host: &[u8]) -> bool
+    ensures { result ≡ list_any (λ c. c == dot) host.now }
+{
+    host.iter().any(|octet| *octet == b'.')
+}
+
 /// Whether it is a host, and no address.
 pub(crate) fn is_named(host: &[u8]) -> bool
     ensures { result ≡ uris.is_named host.now }
@@ -116,23 +124,21 @@ pub(crate) fn is_named(host: &[u8]) -> bool
     is_host(host) && !is_digits_and_dots(host)
 }
 
+/// Whether it is such a host, and has more than one label.
+fn is_qualified(host: &[u8]) -> bool
+    ensures { result ≡ uris.is_qualified host.now }
+{
+    is_named(host) && has_dot(host)
+}
+
 /// The host of the URI; `None` where it has no scheme or no authority, where its host is an address, in brackets or in
-/// digits and dots, and where it is empty or no host ([`is_host`]).
+/// digits and dots, and where it is empty, no host ([`is_host`]) or has a single label: constraints ask for a fully
+/// qualified domain name (RFC 5280 4.2.1.10).
 pub fn host_of_uri(uri: &[u8]) -> Option<&[u8]>
     ensures { MatchOption result (host_of uri.now ≡ None) (λ host. host_of uri.now ≡ Some host.now) }
 {
     let rest = behind_scheme(uri)?;
     let (authority, _) = rest.split_at(authority_len(rest));
     let host = host_in(authority);
-    if is_named(host) { Some(host) } else { None }
-}
-
-/// Whether the URI has a host that is within the subtree, as hosts of e-mail addresses are.
-pub fn is_within_uri(name: &[u8], subtree: &[u8]) -> bool
-    ensures { IsTrue result ↔ IsWithinUri name.now subtree.now }
-{
-    match host_of_uri(name) {
-        Some(host) => is_within_host(host, subtree),
-        None => false,
-    }
+    if is_qualified(host) { Some(host) } else { None }
 }

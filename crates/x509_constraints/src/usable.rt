@@ -1,12 +1,13 @@
-//! Which constraints a certificate may have (RFC 5280 4.2.1.10).
+//! Which subtrees can be used, and which constraints a certificate may have (RFC 5280 4.2.1.10).
 
-ghost use Rattle.std.specs.Prelude.{◌≡◌, ◌↔◌, All, IsTrue};
+ghost use Rattle.std.specs.Prelude.{◌≡◌, ◌↔◌, ◌==◌, ◌&&◌, not, [], IsTrue, Some};
 ghost use Rattle.std.specs.Option.{option_copied};
 ghost use Rattle.x509_constraints.specs.Constraints as constraints;
-ghost use Rattle.x509_constraints.specs.Constraints.{IsUsable, IsUsableSubtree};
+ghost use Rattle.x509_constraints.specs.Constraints.{IsUsable};
 
 use crate::address::is_address_subtree;
 use crate::email::{is_mailbox, split_mailbox};
+use crate::gathered::form_of;
 use crate::host::is_host;
 use crate::uri::is_named;
 use x509_ext::pkix::NameConstraints;
@@ -53,7 +54,7 @@ fn is_mailboxes(base: &[u8]) -> bool
     }
 }
 
-/// Whether some name may be within the subtree, or its form isn't compared.
+/// Whether the base has the syntax that names of its form are compared by, or that form isn't compared.
 fn is_usable_base(base: &GeneralName) -> bool
     ensures { result ≡ constraints.is_usable_base base.now }
 {
@@ -66,32 +67,42 @@ fn is_usable_base(base: &GeneralName) -> bool
     }
 }
 
-/// Whether a certificate may have the subtree.
+/// Whether names can be asked whether they are within the subtree.
 fn is_usable_subtree(subtree: &GeneralSubtree) -> bool
-    ensures { IsTrue result ↔ IsUsableSubtree subtree.now }
+    ensures { result ≡ constraints.is_usable_subtree subtree.now }
 {
     subtree.minimum == 0 && subtree.maximum.is_none() && is_usable_base(&subtree.base)
 }
 
-/// Whether a certificate may have each of the subtrees.
-fn are_usable(subtrees: &Option<GeneralSubtrees>) -> bool
-    ensures { IsTrue result ↔ All (λ subtree. IsUsableSubtree subtree) (constraints.subtrees_of subtrees.now) }
+/// Whether the subtree has the form and can't be used.
+fn is_unusable(form: u16, subtree: &GeneralSubtree) -> bool
+    ensures { result ≡ ((constraints.form_of subtree.now.base == form) && not (constraints.is_usable_subtree subtree.now)) }
+{
+    form_of(&subtree.base) == form && !is_usable_subtree(subtree)
+}
+
+/// Whether some subtree of the form can't be used.
+pub(crate) fn has_unusable(form: u16, subtrees: &[GeneralSubtree]) -> bool
+    ensures { result ≡ constraints.has_unusable form subtrees.now }
+{
+    subtrees.iter().any(|subtree| is_unusable(form, subtree))
+}
+
+/// Whether a list that is there has a subtree.
+fn has_one(subtrees: &Option<GeneralSubtrees>) -> bool
+    ensures { IsTrue result ↔ (subtrees.now ≡ Some [] → ⊥) }
 {
     match subtrees {
         None => true,
-        Some(list) => list
-            .as_slice()
-            .iter()
-            .all(|subtree| is_usable_subtree(subtree)),
+        Some(list) => !list.as_slice().is_empty(),
     }
 }
 
-/// Whether a certificate may have the constraints (RFC 5280 4.2.1.10): each subtree has the minimum 0 and no maximum, and
-/// some name may be within its base. So the base of DNS names and e-mail addresses is empty, a host ([`is_host`]) with or
-/// without a dot in front, or a mailbox ([`is_mailbox`]); of URIs also no address; of IP addresses an address and a mask
-/// ([`is_address_subtree`]). It takes no memory.
+/// Whether a certificate may have the constraints (RFC 5280 4.2.1.10): a list of subtrees that is there has one. It takes
+/// no memory. A minimum, a maximum and an odd base are judged where a name of their form is asked
+/// ([`ConstraintSets`](crate::ConstraintSets)).
 pub fn is_usable(constraints: &NameConstraints) -> bool
     ensures { IsTrue result ↔ IsUsable constraints.now }
 {
-    are_usable(&constraints.permitted_subtrees) && are_usable(&constraints.excluded_subtrees)
+    has_one(&constraints.permitted_subtrees) && has_one(&constraints.excluded_subtrees)
 }

@@ -5,6 +5,8 @@ pub mod Key
 pub mod Field
 pub mod Validity
 pub mod Host
+pub mod CommonName
+pub mod Values
 pub mod Name
 pub mod Usage
 pub mod Policy

@@ -1,11 +1,12 @@
--- The rules on the SAN and the subject of certificates of TLS servers (TLS BR 7.1.2.7.12, 7.1.4.3).
-use Rattle.std.specs.Prelude.{◌&&◌, ◌+◌, ℕ, Bool, true, false, not, nat_lt, length, List, [], ◌∷◌, filter, bytes_eq, codes, None}
+-- The rules on the SAN and the subject of certificates of TLS servers (TLS BR 7.1.2.7, 7.1.2.7.12, 7.1.4.3).
+use Rattle.std.specs.Prelude.{◌&&◌, ◌+◌, ℕ, Bool, true, false, not, nat_lt, length, List, [], ◌∷◌, filter, codes, None}
 use Rattle.std.specs.List.{list_any}
 use Rattle.x509_ext.specs.Identifiers.{id_ce}
 use Rattle.x509_ext.specs.declared.pkix.name.general_name.GeneralName.{GeneralName}
 use Rattle.x509_ext.specs.declared.pkix.name.general_name.GeneralName.TheVariants.{DnsName, IpAddress}
 use Rattle.x509_lint.specs.Text.{id_at}
 use Rattle.x509_lint.specs.Words.{extensions_of, has, has_critical, is_empty, passes}
+use Rattle.x509_lint_web.specs.CommonName.{is_common_name}
 use Rattle.x509_lint_web.specs.Host.{has_underscore, has_reserved_label, has_other_wildcard, has_one_label, is_internal, is_reserved_address}
 use Rattle.x509_lint_web.specs.Words.{has_attribute}
 use Rattle.x509_lint_web.specs.declared.names.NameFault.{NameFault}
@@ -47,24 +48,6 @@ has_fault fault name = is_other fault
 
 -- ---- commonName
 
-abbrev pub is_address : GeneralName → Bool
-is_address (IpAddress octets) = true
-is_address other = false
-
-abbrev pub is_dns_name_of : List ℕ → GeneralName → Bool
-is_dns_name_of text (DnsName other) = bytes_eq other text
-is_dns_name_of text other = false
-
--- a commonName that is none of the dNSNames, octet for octet
-abbrev pub is_stray : List GeneralName → AttributeTypeAndValue → Bool
-is_stray names a = bytes_eq a.oid (id_at 3) && not (list_any (is_dns_name_of a.value.value) names)
-
-abbrev pub has_stray : List GeneralName → List (List AttributeTypeAndValue) → Bool
-has_stray names rdns = list_any (λ rdn. list_any (is_stray names) rdn) rdns
-
-abbrev pub is_common_name : AttributeTypeAndValue → Bool
-is_common_name a = bytes_eq a.oid (id_at 3)
-
 -- how many attributes of the name are commonNames
 abbrev pub common_name_count : List (List AttributeTypeAndValue) → ℕ
 common_name_count [] = 0
@@ -86,6 +69,7 @@ name_rules =
     ∷ rules.AddressReserved
     ∷ rules.CommonNamePresent
     ∷ rules.CommonNameNotInAltName
+    ∷ rules.CommonNameNotAsInAltName
     ∷ rules.OrganizationalUnitPresent
     ∷ rules.CommonNameRepeated ∷ []
 
@@ -121,13 +105,16 @@ name_sentence rules.AddressReserved =
     must (codes "address_reserved") (codes "7.1.2.7.12") (from_day 2015 11 1) (codes "tbsCertificate.extensions.subjectAltName")
     (λ c v. passes (λ s. list_any (has_fault Reserved) s.0) v.subject_alt_name)
 name_sentence rules.CommonNamePresent =
-    should (codes "common_name_present") (codes "7.1.2.7.2") (from_day 2023 9 15) (codes "tbsCertificate.subject")
+    should (codes "common_name_present") (codes "7.1.2.7") (from_day 2023 9 15) (codes "tbsCertificate.subject")
     (λ c v. has_attribute (id_at 3) c.tbs_certificate.subject)
 name_sentence rules.CommonNameNotInAltName =
-    must (codes "common_name_not_in_alt_name") (codes "7.1.4.3") (from_day 2021 8 25) (codes "tbsCertificate.subject")
-    (λ c v. passes (λ s. not (list_any is_address s.0) && has_stray s.0 c.tbs_certificate.subject) v.subject_alt_name)
+    must (codes "common_name_not_in_alt_name") (codes "7.1.4.3") (from_day 2012 7 1) (codes "tbsCertificate.subject")
+    (λ c v. v.has_stray_name)
+name_sentence rules.CommonNameNotAsInAltName =
+    must (codes "common_name_not_as_in_alt_name") (codes "7.1.4.3") (from_day 2021 8 25) (codes "tbsCertificate.subject")
+    (λ c v. v.has_rewritten_name)
 name_sentence rules.OrganizationalUnitPresent =
-    must (codes "organizational_unit_present") (codes "7.1.2.7.4") (from_day 2022 9 1) (codes "tbsCertificate.subject")
+    must (codes "organizational_unit_present") (codes "7.1.2.7") (from_day 2022 9 1) (codes "tbsCertificate.subject")
     (λ c v. has_attribute (id_at 11) c.tbs_certificate.subject)
 name_sentence rules.CommonNameRepeated =
     must (codes "common_name_repeated") (codes "7.1.4.3") (from_day 2021 8 25) (codes "tbsCertificate.subject")

@@ -104,7 +104,7 @@ policy_sentence rules.OrganizationValidatedWithoutCountry =
     must (codes "organization_validated_without_country") (codes "7.1.2.7.4") None (codes "tbsCertificate.subject")
     (λ c v. has_policy organization_validated v && not (has_attribute (id_at 6) c.tbs_certificate.subject))
 policy_sentence rules.AuthorityInfoAccessAbsent =
-    must (codes "authority_info_access_absent") (codes "7.1.2.7.7") (from_day 2023 9 15) (codes "tbsCertificate.extensions.authorityInfoAccess")
+    must (codes "authority_info_access_absent") (codes "7.1.2.7.7") (from_day 2012 7 1) (codes "tbsCertificate.extensions.authorityInfoAccess")
     (λ c v. not (has (id_pkix 1 1) (extensions_of c)))
 policy_sentence rules.AccessMethodOther =
     must (codes "access_method_other") (codes "7.1.2.7.7") (from_day 2023 9 15) (codes "tbsCertificate.extensions.authorityInfoAccess")

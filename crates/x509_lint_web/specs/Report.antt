@@ -10,7 +10,7 @@ use Rattle.x509_lint.specs.Words.{Certificate}
 use Rattle.x509_lint.specs.declared.report.Report.{Report}
 use Rattle.x509_lint_web.specs.Rules.{is_found, web_rules, web_sentence}
 use Rattle.x509_lint_web.specs.Seen.{web_seen}
-use Rattle.x509_lint_web.specs.Words.{AreWebValues}
+use Rattle.x509_lint_web.specs.Values.{AreWebValues}
 use Rattle.x509_lint_web.specs.declared.rule.WebRule.{WebRule}
 use Rattle.x509_lint_web.specs.declared.values.WebValues.{WebValues}
 use Rattle.x509_text.specs.Lines.{shown}

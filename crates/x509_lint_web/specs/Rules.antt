@@ -10,7 +10,8 @@ use Rattle.x509_lint_web.specs.Policy as policy
 use Rattle.x509_lint_web.specs.Usage as usage
 use Rattle.x509_lint_web.specs.Validity as validity
 use Rattle.x509_lint_web.specs.Sentence.{Sentence, is_in_force}
-use Rattle.x509_lint_web.specs.Words.{AreWebValues, is_above_servers, is_server}
+use Rattle.x509_lint_web.specs.Values.{AreWebValues}
+use Rattle.x509_lint_web.specs.Words.{is_above_servers, is_server}
 use Rattle.x509_lint_web.specs.declared.rule.WebRule.{WebRule}
 use Rattle.x509_lint_web.specs.declared.rule.WebRule.TheVariants as rules
 use Rattle.x509_lint_web.specs.declared.values.WebValues.{WebValues}

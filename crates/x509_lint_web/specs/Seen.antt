@@ -60,6 +60,7 @@ name_part name.DnsNameInternal = Name faults.Internal
 name_part name.AddressReserved = Name faults.Reserved
 name_part name.CommonNamePresent = Subject
 name_part name.CommonNameNotInAltName = Subject
+name_part name.CommonNameNotAsInAltName = Subject
 name_part name.CommonNameRepeated = Subject
 name_part name.OrganizationalUnitPresent = Subject
 name_part other = Extension (id_ce 17)

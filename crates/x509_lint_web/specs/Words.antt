@@ -50,9 +50,6 @@ AreValuesOf extensions key v =
     × IsValue authority_info_access_syntax (id_pkix 1 1) extensions v.authority_info_access
     × IsSpelled numbers key.subject_public_key.octets v.rsa_numbers
 
-abbrev pub AreWebValues : Certificate → WebValues → Type 0
-AreWebValues c v = AreValuesOf (extensions_of c) (key_of c) v
-
 -- ---- names and texts
 
 -- some attribute of the name has the type

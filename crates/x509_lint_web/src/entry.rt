@@ -1,11 +1,7 @@
 //! How a rule of the Baseline Requirements is told.
 
-ghost use Rattle.std.specs.Prelude.{◌≡◌, codes};
-ghost use Rattle.x509_lint.specs.Wording.{Says, must_of, should_of};
-ghost use Rattle.x509_lint_web.specs.Sentence.{from_day};
-
 use crate::day::Day;
-use x509_lint::{Entry, Severity};
+use x509_lint::Entry;
 
 /// How bad it is to break a rule, its name, its section and where in the certificate it is broken, and since when it is in force.
 #[derive(Clone, Copy, Debug)]
@@ -17,48 +13,43 @@ pub struct WebEntry {
     pub since: Option<Day>,
 }
 
-pub(crate) fn from_day(year: u16, month: u8, day: u8) -> Option<Day>
-    ensures { result ≡ from_day year month day }
-{
-    Some(Day { year, month, day })
+/// The entries of a group's rules, a line for each in the order of their variants: its variant, how bad it is to break it, its name, its section, since when it
+/// is in force, and its place.
+macro_rules! entries {
+    ($($variant:ident => $how:ident($name:literal, $section:literal, $since:ident $(($($part:literal),+))?, $place:literal),)+) => {
+        [$($crate::entry::WebEntry {
+            entry: $crate::entry::entries!(@$how $name, $section, $place),
+            since: $crate::entry::entries!(@$since $($($part),+)?),
+        }),+]
+    };
+    (@must $name:literal, $section:literal, $place:literal) => {
+        x509_lint::Entry {
+            severity: x509_lint::Severity::Error,
+            name: $name,
+            standard: "TLS BR",
+            section: $section,
+            place: $place,
+        }
+    };
+    (@should $name:literal, $section:literal, $place:literal) => {
+        x509_lint::Entry {
+            severity: x509_lint::Severity::Warning,
+            name: $name,
+            standard: "TLS BR",
+            section: $section,
+            place: $place,
+        }
+    };
+    (@from_day $year:literal, $month:literal, $day:literal) => {
+        Some($crate::day::Day {
+            year: $year,
+            month: $month,
+            day: $day,
+        })
+    };
+    (@None) => {
+        None
+    };
 }
 
-/// The entry of a rule that has to be kept.
-pub(crate) fn must(
-    name: &'static str,
-    section: &'static str,
-    since: Option<Day>,
-    place: &'static str,
-) -> WebEntry
-    ensures told { Says result.entry (must_of (codes "TLS BR") name.now section.now place.now) }
-    ensures since { result.since ≡ since }
-{
-    let entry = Entry {
-        severity: Severity::Error,
-        name,
-        standard: "TLS BR",
-        section,
-        place,
-    };
-    WebEntry { entry, since }
-}
-
-/// The entry of a rule that ought to be kept.
-pub(crate) fn should(
-    name: &'static str,
-    section: &'static str,
-    since: Option<Day>,
-    place: &'static str,
-) -> WebEntry
-    ensures told { Says result.entry (should_of (codes "TLS BR") name.now section.now place.now) }
-    ensures since { result.since ≡ since }
-{
-    let entry = Entry {
-        severity: Severity::Warning,
-        name,
-        standard: "TLS BR",
-        section,
-        place,
-    };
-    WebEntry { entry, since }
-}
+pub(crate) use entries;

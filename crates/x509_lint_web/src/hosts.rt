@@ -21,7 +21,7 @@ pub(crate) fn is_http(text: &[u8]) -> bool
     text.len() >= 7 && is_same(&text[..7], b"http://")
 }
 
-fn has_octet(octet: u8, text: &[u8]) -> bool
+pub(crate) fn has_octet(octet: u8, text: &[u8]) -> bool
     ensures { result ≡ host.has_octet octet text.now }
 {
     text.iter().any(|o| *o == octet)
@@ -50,8 +50,25 @@ fn is_reserved_label(label: &[u8]) -> bool
 pub(crate) fn has_reserved_label(text: &[u8]) -> bool
     ensures { result ≡ host.has_reserved_label text.now }
 {
-    text.split(|octet| *octet == b'.')
-        .any(|label| is_reserved_label(label))
+    text.split(|octet| *octet == b'.').any(is_reserved_label)
+}
+
+fn is_xn_label(label: &[u8]) -> bool
+    ensures { result ≡ host.is_xn_label label.now }
+{
+    label.len() >= 4 && is_same(&label[..4], b"xn--")
+}
+
+pub(crate) fn has_xn_label(text: &[u8]) -> bool
+    ensures { result ≡ host.has_xn_label text.now }
+{
+    text.split(|octet| *octet == b'.').any(is_xn_label)
+}
+
+pub(crate) fn is_beyond_ascii(text: &[u8]) -> bool
+    ensures { result ≡ host.is_beyond_ascii text.now }
+{
+    text.iter().any(|o| *o > 127)
 }
 
 pub(crate) fn has_other_wildcard(text: &[u8]) -> bool

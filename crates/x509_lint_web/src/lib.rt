@@ -5,6 +5,7 @@
 #![tactic(auto)]
 
 mod algorithms;
+mod common_names;
 mod day;
 mod entry;
 mod hosts;

@@ -1,12 +1,14 @@
 //! What is asked of names: those of the SAN, and that of the subject.
 
 ghost use Rattle.std.specs.List.{list_any};
-ghost use Rattle.std.specs.Prelude.{◌≡◌, ◌&&◌, bytes_eq, filter, length, nat_lt, not};
+ghost use Rattle.std.specs.Prelude.{◌≡◌, bytes_eq, filter, length, nat_lt};
 ghost use Rattle.x509_lint.specs.Words.{is_empty, passes};
+ghost use Rattle.x509_lint_web.specs.CommonName.{is_common_name};
 ghost use Rattle.x509_lint_web.specs.Name as grammar;
 ghost use Rattle.x509_lint_web.specs.Policy as policy;
 ghost use Rattle.x509_lint_web.specs.Words as words;
 
+use crate::common_names::is_common_name;
 use crate::hosts::{
     has_one_label, has_other_wildcard, has_reserved_label, has_underscore, is_http, is_internal,
     is_reserved_address,
@@ -20,7 +22,7 @@ use x509_name::attr::attribute_types::{COMMON_NAME, COUNTRY_NAME};
 use x509_name::name::{Name, RdnSequence, RelativeDistinguishedName};
 
 /// What may be wrong with a name of the SAN (TLS BR 7.1.2.7.12).
-#[derive(Clone, Copy, Debug, PartialEq, Eq)]
+#[derive(Clone, Copy)]
 pub(crate) enum NameFault {
     /// It is neither a dNSName nor an iPAddress.
     OtherName,
@@ -117,7 +119,7 @@ pub(crate) fn has_name(fault: NameFault, names: &Option<SubjectAltName>) -> bool
 pub(crate) fn is_host_among(names: &[GeneralName]) -> bool
     ensures { result ≡ list_any grammar.is_host_name names.now }
 {
-    names.iter().any(|name| is_host_name(name))
+    names.iter().any(is_host_name)
 }
 
 fn is_in(oid: ObjectIdentifier, rdn: &RelativeDistinguishedName) -> bool
@@ -149,9 +151,7 @@ fn is_other_attribute(attribute: &AttributeTypeAndValue) -> bool
 fn has_other_in(rdn: &RelativeDistinguishedName) -> bool
     ensures { result ≡ list_any policy.is_other_attribute rdn.now }
 {
-    rdn.as_slice()
-        .iter()
-        .any(|attribute| is_other_attribute(attribute))
+    rdn.as_slice().iter().any(is_other_attribute)
 }
 
 /// Whether the name has an attribute that is neither countryName nor commonName.
@@ -159,81 +159,12 @@ pub(crate) fn has_other_attribute(name: &Name) -> bool
     ensures { result ≡ policy.has_other_attribute name.now }
 {
     let rdns: &RdnSequence = name.as_ref();
-    rdns.as_slice().iter().any(|rdn| has_other_in(rdn))
-}
-
-fn is_address(name: &GeneralName) -> bool
-    ensures { result ≡ grammar.is_address name.now }
-{
-    match name {
-        GeneralName::IpAddress(_) => true,
-        _ => false,
-    }
-}
-
-fn is_address_among(names: &[GeneralName]) -> bool
-    ensures { result ≡ list_any grammar.is_address names.now }
-{
-    names.iter().any(|name| is_address(name))
-}
-
-fn is_dns_name_of(text: &[u8], name: &GeneralName) -> bool
-    ensures { result ≡ grammar.is_dns_name_of text.now name.now }
-{
-    match name {
-        GeneralName::DnsName(other) => other.as_str().as_bytes() == text,
-        _ => false,
-    }
-}
-
-fn is_dns_name_among(text: &[u8], names: &[GeneralName]) -> bool
-    ensures { result ≡ list_any (grammar.is_dns_name_of text.now) names.now }
-{
-    names.iter().any(|name| is_dns_name_of(text, name))
-}
-
-fn is_stray(names: &[GeneralName], attribute: &AttributeTypeAndValue) -> bool
-    ensures { result ≡ grammar.is_stray names.now attribute.now }
-{
-    attribute.oid == COMMON_NAME && !is_dns_name_among(attribute.value.value(), names)
-}
-
-fn has_stray_in(names: &[GeneralName], rdn: &RelativeDistinguishedName) -> bool
-    ensures { result ≡ list_any (grammar.is_stray names.now) rdn.now }
-{
-    rdn.as_slice()
-        .iter()
-        .any(|attribute| is_stray(names, attribute))
-}
-
-fn has_stray(names: &[GeneralName], name: &Name) -> bool
-    ensures { result ≡ grammar.has_stray names.now name.now }
-{
-    let rdns: &RdnSequence = name.as_ref();
-    rdns.as_slice().iter().any(|rdn| has_stray_in(names, rdn))
-}
-
-/// Whether the SAN is read and has no iPAddress, and the name has a commonName that is no dNSName of it.
-pub(crate) fn has_stray_name(names: &Option<SubjectAltName>, name: &Name) -> bool
-    ensures { result ≡ passes (λ s. not (list_any grammar.is_address s.0) && grammar.has_stray s.0 name.now) names.now }
-{
-    match names {
-        Some(names) => {
-            !is_address_among(names.0.as_slice()) && has_stray(names.0.as_slice(), name)
-        }
-        None => false,
-    }
-}
-
-fn is_common_name(attribute: &AttributeTypeAndValue) -> bool
-    ensures { result ≡ grammar.is_common_name attribute.now }
-{
-    attribute.oid == COMMON_NAME
+    rdns.as_slice().iter().any(has_other_in)
 }
 
 /// How many attributes of the RDN are commonNames.
 fn count_in(rdn: &RelativeDistinguishedName) -> usize
-    ensures { result ≡ length (filter grammar.is_common_name rdn.now) }
+    ensures { result ≡ length (filter is_common_name rdn.now) }
 {
     rdn.as_slice()
         .iter()

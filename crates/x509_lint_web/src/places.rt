@@ -36,7 +36,7 @@ pub(crate) fn has_issuer(identifier: &Option<AuthorityKeyIdentifier>) -> bool
 fn are_http(names: &[GeneralName]) -> bool
     ensures { result ≡ list_all is_http_name names.now }
 {
-    names.iter().all(|name| is_http_name(name))
+    names.iter().all(is_http_name)
 }
 
 fn is_http_full_name(name: &Option<DistributionPointName>) -> bool
@@ -66,13 +66,13 @@ fn is_partial(point: &DistributionPoint) -> bool
 pub(crate) fn is_without_http_among(points: &[DistributionPoint]) -> bool
     ensures { result ≡ list_any field.is_without_http points.now }
 {
-    points.iter().any(|point| is_without_http(point))
+    points.iter().any(is_without_http)
 }
 
 pub(crate) fn is_partial_among(points: &[DistributionPoint]) -> bool
     ensures { result ≡ list_any field.is_partial points.now }
 {
-    points.iter().any(|point| is_partial(point))
+    points.iter().any(is_partial)
 }
 
 fn has_other_method(description: &AccessDescription) -> bool
@@ -90,17 +90,13 @@ fn has_other_location(description: &AccessDescription) -> bool
 pub(crate) fn is_other_method_among(descriptions: &[AccessDescription]) -> bool
     ensures { result ≡ list_any policy.has_other_method descriptions.now }
 {
-    descriptions
-        .iter()
-        .any(|description| has_other_method(description))
+    descriptions.iter().any(has_other_method)
 }
 
 fn is_other_location_among(descriptions: &[AccessDescription]) -> bool
     ensures { result ≡ list_any policy.has_other_location descriptions.now }
 {
-    descriptions
-        .iter()
-        .any(|description| has_other_location(description))
+    descriptions.iter().any(has_other_location)
 }
 
 /// Whether the descriptions are read, and the location of one isn't an HTTP URI.

@@ -56,7 +56,7 @@ fn is_reserved(policy: &PolicyInformation) -> bool
 pub(crate) fn is_reserved_among(policies: &[PolicyInformation]) -> bool
     ensures { result ≡ list_any grammar.is_reserved policies.now }
 {
-    policies.iter().any(|policy| is_reserved(policy))
+    policies.iter().any(is_reserved)
 }
 
 pub(crate) fn are_qualified(policies: &[PolicyInformation]) -> bool
@@ -84,5 +84,5 @@ fn has_other_qualifier(policy: &PolicyInformation) -> bool
 pub(crate) fn is_other_among(policies: &[PolicyInformation]) -> bool
     ensures { result ≡ list_any grammar.has_other_qualifier policies.now }
 {
-    policies.iter().any(|policy| has_other_qualifier(policy))
+    policies.iter().any(has_other_qualifier)
 }

@@ -29,7 +29,7 @@ fn is_error(rule: &WebRule) -> bool
 fn has_error(findings: &[WebRule]) -> bool
     ensures { result ≡ list_any grammar.is_error findings.now }
 {
-    findings.iter().any(|rule| is_error(rule))
+    findings.iter().any(is_error)
 }
 
 /// The line of a finding for people.

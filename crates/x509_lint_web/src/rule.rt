@@ -59,7 +59,7 @@ pub enum WebRule {
 }
 
 /// All rules, in their order.
-pub(crate) const WEB_RULES: [WebRule; 73] = [
+pub(crate) const WEB_RULES: [WebRule; 74] = [
     WebRule::Field(WebFieldRule::VersionNotV3),
     WebRule::Field(WebFieldRule::SignatureOfSha1),
     WebRule::Field(WebFieldRule::SignatureAlgorithmOther),
@@ -98,6 +98,7 @@ pub(crate) const WEB_RULES: [WebRule; 73] = [
     WebRule::Name(WebNameRule::AddressReserved),
     WebRule::Name(WebNameRule::CommonNamePresent),
     WebRule::Name(WebNameRule::CommonNameNotInAltName),
+    WebRule::Name(WebNameRule::CommonNameNotAsInAltName),
     WebRule::Name(WebNameRule::OrganizationalUnitPresent),
     WebRule::Name(WebNameRule::CommonNameRepeated),
     WebRule::Usage(WebUsageRule::ExtendedKeyUsageAbsent),

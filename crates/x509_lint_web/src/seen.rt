@@ -15,7 +15,7 @@ use x509_lint::extensions::extensions_of;
 use x509_lint::seen::{shortened, value_of};
 
 /// What of a certificate a rule speaks of.
-#[derive(Clone, Copy, Debug, PartialEq, Eq)]
+#[derive(Clone, Copy)]
 pub(crate) enum Part {
     /// The version, of which nothing more is told.
     Version,

@@ -2,8 +2,10 @@
 
 ghost use Rattle.std.specs.Prelude.{◌≡◌, IfOk, IfErr};
 ghost use Rattle.x509_der.specs.declared.error.ErrorKind.TheVariants.{Memory};
-ghost use Rattle.x509_lint_web.specs.Words.{AreValuesOf, AreWebValues, IsSpelled};
+ghost use Rattle.x509_lint_web.specs.Values.{AreNameValues, AreWebValues};
+ghost use Rattle.x509_lint_web.specs.Words.{AreValuesOf, IsSpelled};
 
+use crate::common_names::{CommonNameFault, has_odd_name};
 use std::alloc::Global;
 use x509_base::{Raw, SubjectPublicKeyInfo};
 use x509_cert::certificate::CertificateInner;
@@ -15,10 +17,10 @@ use x509_ext::pkix::{
 };
 use x509_lint::AnyBasicConstraints;
 use x509_lint::extensions::{extensions_of, payload};
+use x509_name::name::Name;
 use x509_prim::Uint;
 
 /// The values of extensions, and of the key.
-#[derive(Debug)]
 pub(crate) struct WebValues {
     pub(crate) basic_constraints: Option<AnyBasicConstraints>,
     pub(crate) key_usage: Option<KeyUsage>,
@@ -31,6 +33,12 @@ pub(crate) struct WebValues {
 
     /// The numbers of the key, where its bits are a SEQUENCE OF INTEGER.
     pub(crate) rsa_numbers: Option<SequenceOf<Uint>>,
+
+    /// The SAN is read, and a commonName of the subject is no name of it.
+    pub(crate) has_stray_name: bool,
+
+    /// The SAN is read, and a commonName of the subject is a name of it, and is written otherwise.
+    pub(crate) has_rewritten_name: bool,
 }
 
 impl Drop for WebValues {
@@ -45,6 +53,8 @@ impl Drop for WebValues {
             crl_distribution_points: _,
             authority_info_access: _,
             rsa_numbers: _,
+            has_stray_name: _,
+            has_rewritten_name: _,
         } = self;
     }
 }
@@ -63,25 +73,36 @@ fn spelled<T: Decode + Drop>(alloc: Global, octets: &[u8]) -> Result<Option<T>, 
     }
 }
 
-/// The values of extensions and of a key.
+/// The values of extensions, of a key and of a subject.
 fn values_of(
     alloc: Global,
     extensions: &[Extension],
     key: &SubjectPublicKeyInfo,
+    subject: &Name,
 ) -> Result<WebValues, Error>
-    ensures ok { IfOk result (AreValuesOf extensions.now key.now) }
+    ensures ok { IfOk result (λ v. AreValuesOf extensions.now key.now v × AreNameValues subject.now v) }
     ensures err { IfErr result (λ e. e.kind ≡ Memory) }
 {
+    let subject_alt_name = payload(alloc, extensions)?;
+    let has_stray_name = has_odd_name(alloc, CommonNameFault::Stray, &subject_alt_name, subject)?;
+    let has_rewritten_name = has_odd_name(
+        alloc,
+        CommonNameFault::Rewritten,
+        &subject_alt_name,
+        subject,
+    )?;
     Ok(WebValues {
         basic_constraints: payload(alloc, extensions)?,
         key_usage: payload(alloc, extensions)?,
         extended_key_usage: payload(alloc, extensions)?,
-        subject_alt_name: payload(alloc, extensions)?,
+        subject_alt_name,
         authority_key_identifier: payload(alloc, extensions)?,
         certificate_policies: payload(alloc, extensions)?,
         crl_distribution_points: payload(alloc, extensions)?,
         authority_info_access: payload(alloc, extensions)?,
         rsa_numbers: spelled(alloc, key.subject_public_key.raw_bytes())?,
+        has_stray_name,
+        has_rewritten_name,
     })
 }
 
@@ -93,6 +114,8 @@ pub(crate) fn web_values(
     ensures ok { IfOk result (AreWebValues certificate.now) }
     ensures err { IfErr result (λ e. e.kind ≡ Memory) }
 {
-    let key = certificate.tbs_certificate().subject_public_key_info();
-    values_of(alloc, extensions_of(certificate), key)
+    let part = certificate.tbs_certificate();
+    let key = part.subject_public_key_info();
+    let subject = part.subject();
+    values_of(alloc, extensions_of(certificate), key, subject)
 }

@@ -12,6 +12,7 @@ use Rattle.x509_lint.specs.declared.report.Report.{Report}
 use Rattle.x509_linter.specs.declared.linter.Linter.{Linter}
 use Rattle.x509_linter.specs.declared.linter.Telling.{Telling}
 use Rattle.x509_linter.specs.declared.linter.Telling.TheVariants.{Lines, Verbose, Json}
+use Rattle.x509_object_run.specs.Labels.{word_label}
 use Rattle.x509_object_run.specs.Object.{Subject}
 use Rattle.x509_object_run.specs.Program.{Program}
 use Rattle.x509_object_run.specs.declared.heading.Headed.{Headed}
@@ -89,6 +90,23 @@ asked_by None options names = option_map (λ telling. asked_of telling names) (t
 abbrev pub asked : List (List ℕ) → List (List ℕ) → Option (Linter × List (List ℕ))
 asked options names = asked_by (web_telling_of options) options names
 
+-- of a word that has to be a moment it is told that it is none
+abbrev pub moment_misuse : List ℕ → Option CivilTime → List ℕ
+moment_misuse word (Some moment) = []
+moment_misuse word None = codes "x509_linter: not a moment, as 2026-03-15T00:00:00Z is one: " ++ (word_label word ++ codes "\n")
+
+abbrev pub web_misuse : List (List ℕ) → List ℕ
+web_misuse [] = codes "x509_linter: --web stands without a moment\n"
+web_misuse (word ∷ names) = moment_misuse word (moment_of word)
+
+abbrev pub misuse_by : Option Telling → List (List ℕ) → List ℕ
+misuse_by (Some telling) names = web_misuse names
+misuse_by None names = []
+
+-- what is told of words that ask for nothing
+abbrev pub misuse : List (List ℕ) → List (List ℕ) → List ℕ
+misuse options names = misuse_by (web_telling_of options) names
+
 -- ---- what the program says of itself
 
 abbrev pub usage : List ℕ
@@ -98,8 +116,8 @@ abbrev pub help : List ℕ
 help =
     codes "usage: x509_linter [certificate|crl|csr|anchor] [-v|--json] [FILE..]\n       x509_linter --web [-v|--json] MOMENT [FILE..]\n\n"
     ++ codes "Tells which rules certificates, CRLs (RFC 5280), CSRs (RFC 2986, 2985) and trust anchors\n"
-    ++ codes "(RFC 5914) break, in DER or hex: a line for each, with its section. Without a FILE, and where\n"
-    ++ codes "FILE is -, it reads standard input.\n\n"
+    ++ codes "(RFC 5914) break, in DER, PEM or hex: a line for each, with its section. Without a FILE, and\n"
+    ++ codes "where FILE is -, it reads standard input.\n\n"
     ++ codes "  certificate, crl, csr, anchor  what each input is; without such a word it is tried as each\n"
     ++ codes "                                 of them, in this order\n"
     ++ codes "  --web                          tells which rules of the Baseline Requirements of the\n"
@@ -120,11 +138,11 @@ program = record { name = codes "x509_linter"; usage = usage; help = help }
 
 -- how it is told that bytes are no encoding of what was asked for
 abbrev pub no_object : Option Kind → List ℕ
-no_object None = codes "not a certificate, CRL, CSR or trust anchor in DER or hex"
-no_object (Some Certificate) = codes "not a certificate in DER or hex"
-no_object (Some Crl) = codes "not a CRL in DER or hex"
-no_object (Some Csr) = codes "not a CSR in DER or hex"
-no_object (Some Anchor) = codes "not a trust anchor in DER or hex"
+no_object None = codes "not a certificate, CRL, CSR or trust anchor in DER, PEM or hex"
+no_object (Some Certificate) = codes "not a certificate in DER, PEM or hex"
+no_object (Some Crl) = codes "not a CRL in DER, PEM or hex"
+no_object (Some Csr) = codes "not a CSR in DER, PEM or hex"
+no_object (Some Anchor) = codes "not a trust anchor in DER, PEM or hex"
 
 -- 1 where a rule is broken that has to be kept
 abbrev pub status_of : Bool → ℕ

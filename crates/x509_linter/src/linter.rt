@@ -15,7 +15,7 @@ use x509_base::DateTime;
 use x509_der::{Error, ErrorKind};
 use x509_lint::{Kind, Report, Style, lint_bytes, lint_kind};
 use x509_lint_web::lint_web_bytes;
-use x509_object_run::{Headed, Heading, PrintError, Printer, write_headed};
+use x509_object_run::{Headed, Heading, PrintError, Printer, word_label, write_headed};
 use x509_text::write_json_text;
 use x509_tool_run::{Sink, WriteError, write_text};
 
@@ -23,8 +23,8 @@ const HELP: &[u8] = b"usage: x509_linter [certificate|crl|csr|anchor] [-v|--json
        x509_linter --web [-v|--json] MOMENT [FILE..]
 
 Tells which rules certificates, CRLs (RFC 5280), CSRs (RFC 2986, 2985) and trust anchors
-(RFC 5914) break, in DER or hex: a line for each, with its section. Without a FILE, and where
-FILE is -, it reads standard input.
+(RFC 5914) break, in DER, PEM or hex: a line for each, with its section. Without a FILE, and
+where FILE is -, it reads standard input.
 
   certificate, crl, csr, anchor  what each input is; without such a word it is tried as each
                                  of them, in this order
@@ -171,16 +171,40 @@ fn web_of<'a, 'b>(telling: Telling, names: &'a [&'b str]) -> Option<(Linter, &'a
     }
 }
 
+/// What is told of a word that has to be a moment: nothing where it is one.
+fn moment_misuse(word: &str) -> (&'static [u8], &str, &'static [u8])
+    ensures { result.0.now ++ (result.1.now ++ result.2.now) ≡ grammar.moment_misuse word.now (grammar.moment_of word.now) }
+{
+    match moment_of(word) {
+        Some(_) => (b"", "", b""),
+        None => (
+            b"x509_linter: not a moment, as 2026-03-15T00:00:00Z is one: ",
+            word_label(word),
+            b"\n",
+        ),
+    }
+}
+
+/// What is told of names behind `--web` that ask for nothing.
+fn web_misuse<'b>(names: &[&'b str]) -> (&'static [u8], &'b str, &'static [u8])
+    ensures { result.0.now ++ (result.1.now ++ result.2.now) ≡ grammar.web_misuse (map (λ name. name.now) names.now) }
+{
+    match names {
+        [] => (b"x509_linter: --web stands without a moment\n", "", b""),
+        [word, ..] => moment_misuse(word),
+    }
+}
+
 /// How it is told that bytes are the encoding of no object of this kind, or of none at all.
 fn no_object(kind: Option<Kind>) -> &'static [u8]
     ensures { result.now ≡ grammar.no_object kind }
 {
     match kind {
-        None => b"not a certificate, CRL, CSR or trust anchor in DER or hex",
-        Some(Kind::Certificate) => b"not a certificate in DER or hex",
-        Some(Kind::Crl) => b"not a CRL in DER or hex",
-        Some(Kind::Csr) => b"not a CSR in DER or hex",
-        Some(Kind::Anchor) => b"not a trust anchor in DER or hex",
+        None => b"not a certificate, CRL, CSR or trust anchor in DER, PEM or hex",
+        Some(Kind::Certificate) => b"not a certificate in DER, PEM or hex",
+        Some(Kind::Crl) => b"not a CRL in DER, PEM or hex",
+        Some(Kind::Csr) => b"not a CSR in DER, PEM or hex",
+        Some(Kind::Anchor) => b"not a trust anchor in DER, PEM or hex",
     }
 }
 
@@ -315,9 +339,11 @@ fn tell<'a, W: Sink>(
 
 /// The text of what is said, under a heading; JSON has its name in each object. What is said where nothing is found is told by `-v` alone.
 impl Printer for Linter {
-    ghost use Rattle.x509_linter.specs.Linter.{asked, program, subject};
+    ghost use Rattle.x509_linter.specs.Linter.{asked, misuse, program, subject};
 
     ghost asked = { asked };
+
+    ghost misuse = { misuse };
 
     ghost program = { program };
 
@@ -333,6 +359,16 @@ impl Printer for Linter {
         match telling_of(options) {
             Some(telling) => Some(asked_of(telling, names)),
             None => None,
+        }
+    }
+
+    fn misuse<'b>(
+        options: &[&'b str],
+        names: &[&'b str],
+    ) -> (&'static [u8], &'b str, &'static [u8]) {
+        match web_telling_of(options) {
+            Some(_) => web_misuse(names),
+            None => (b"", "", b""),
         }
     }
 

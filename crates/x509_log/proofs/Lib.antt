@@ -1,3 +1,4 @@
+mod Refusals
 mod Cuts
 mod Places
 mod Alike

@@ -1,11 +1,18 @@
 //! The SCTs within a certificate, and what they are signatures of.
 
-ghost use Rattle.std.specs.Prelude.{◌≡◌, IfOk};
+ghost use Rattle.std.specs.Prelude.{◌≡◌, ◌⊎◌, IfOk, IfErr};
 ghost use Rattle.x509_cert.specs.declared.certificate.certificate.CertificateInner as whole;
 ghost use Rattle.x509_der.specs.Form.{Spells};
-ghost use Rattle.x509_log.specs.Embedded.{AreTimestamps, IsSigned};
-ghost use Rattle.x509_sct.specs.SignedInput.{entry_of};
-ghost use Rattle.x509_sct.specs.TimestampList.{IsTimestampList};
+ghost use Rattle.x509_log.specs.Embedded.{AreTimestamps, IsSigned, IsUnsigned, LacksTimestamps};
+ghost use Rattle.x509_log.specs.Errors.{IsMemory};
+ghost use Rattle.x509_log.specs.Logged.{HasOne};
+ghost use Rattle.x509_log.specs.declared.error.LogError.TheVariants.{Tls};
+ghost use Rattle.x509_sct.specs.Identifier.{embedded_timestamps};
+ghost use Rattle.x509_sct.specs.Lists.{ListFault};
+ghost use Rattle.x509_sct.specs.Numbers.{uint16};
+ghost use Rattle.x509_sct.specs.SignedInput.{certificate_of, entry_of};
+ghost use Rattle.x509_sct.specs.TimestampList.{IsTimestampList, serialized as item};
+ghost use Rattle.x509_sct.specs.declared.tls.error.TlsError.{TlsError as Fault};
 
 use crate::error::LogError;
 use crate::key_hash::issuer_key_hash;
@@ -44,7 +51,8 @@ fn timestamps_of(
     alloc: Global,
     list: &SignedCertificateTimestampList,
 ) -> Result<Vec<SerializedSct>, LogError>
-    ensures { IfOk result (λ timestamps. IsTimestampList timestamps.items list.now.0) }
+    ensures found { IfOk result (λ timestamps. IsTimestampList timestamps.items list.now.0) }
+    ensures refused { IfErr result (λ e. IsMemory e ⊎ ((fault : Fault) × ListFault uint16 item list.now.0 fault × (e ≡ Tls fault))) }
 {
     Ok(list.parse_timestamps(alloc)?)
 }
@@ -54,8 +62,10 @@ fn embedded_in<P: Profile>(
     alloc: Global,
     certificate: &CertificateRef<'_, P>,
 ) -> Result<Vec<SerializedSct>, LogError>
-    ensures { IfOk result (λ timestamps. (value : whole.CertificateInner P) → Spells ⟦<CertificateInner<P> as Grammar>⟧.form value certificate.now.bytes.now
+    ensures found { IfOk result (λ timestamps. (value : whole.CertificateInner P) → Spells ⟦<CertificateInner<P> as Grammar>⟧.form value certificate.now.bytes.now
         → AreTimestamps value.tbs_certificate timestamps.items) }
+    ensures refused { IfErr result (λ e. (value : whole.CertificateInner P) → Spells ⟦<CertificateInner<P> as Grammar>⟧.form value certificate.now.bytes.now
+        → HasOne embedded_timestamps value.tbs_certificate → LacksTimestamps value.tbs_certificate e) }
 {
     let extensions = certificate.extensions();
     match extensions.find_extension(SignedCertificateTimestampList::OID) {
@@ -75,7 +85,8 @@ fn signed_of(
     serialized: &SerializedSct,
     entry: &SignedEntry<'_>,
 ) -> Result<SignedTimestamp, LogError>
-    ensures { IfOk result (λ signed. IsSigned (entry_of entry.now) serialized.now signed) }
+    ensures found { IfOk result (λ signed. IsSigned (entry_of entry.now) serialized.now signed) }
+    ensures refused { IfErr result (λ e. IsUnsigned (certificate_of entry.now) serialized.now e) }
 {
     let timestamp = serialized.parse_timestamp(alloc)?;
     let octets = timestamp.signed_input(alloc, entry)?;
@@ -83,16 +94,20 @@ fn signed_of(
 }
 
 impl EmbeddedTimestamps {
-    ghost use Rattle.std.specs.Prelude.{◌≡◌, ◌≤◌, ◌<◌, length, get_or, slice_get, Some, IfOk, IfErr, MatchOption};
-    ghost use Rattle.x509_log.specs.Embedded.{IsEmbedded, entry_of_embedded};
+    ghost use Rattle.std.specs.Prelude.{◌≡◌, ◌≤◌, ◌⊎◌, length, slice_get, Some, IfOk, IfErr, MatchOption};
+    ghost use Rattle.x509_log.specs.Embedded.{IsEmbedded, IsUnsigned, LacksTimestamps, entry_of_embedded};
+    ghost use Rattle.x509_log.specs.Logged.{Refuses};
+    ghost use Rattle.x509_sct.specs.Identifier.{embedded_timestamps};
+    ghost use Rattle.x509_sct.specs.SignedInput.{certificate_of};
     ghost use Rattle.x509_sct.specs.declared.serialized.SerializedSct as serialized;
 
     /// The SCTs of a certificate, and the entry that they are of. Whether the issuer issued the certificate isn't looked at.
     ///
     /// # Errors
     ///
-    /// `Absent` where the certificate has no list of SCTs, `Repeated` where it has two or more. An error of DER where the extension doesn't
-    /// hold an OCTET STRING, an error of TLS where that is no list; out of memory.
+    /// `Absent` exactly where the certificate has no list of SCTs, `Repeated` exactly where it has two or more. `Malformed` of DER exactly
+    /// where the extension doesn't hold an OCTET STRING, an error of TLS, the first from the left, exactly where that is no list. `Memory`
+    /// when out of memory.
     pub fn from_certificate<P: Profile>(
         alloc: Global,
         certificate: &CertificateRef<'_, P>,
@@ -102,6 +117,8 @@ impl EmbeddedTimestamps {
             → Spells ⟦<CertificateInner<P> as Grammar>⟧.form value certificate.now.bytes.now
             → Spells ⟦<CertificateInner<P> as Grammar>⟧.form above issuer.now.bytes.now
             → IsEmbedded ⟦<TbsCertificateInner<P> as Grammar>⟧.form value.tbs_certificate above.tbs_certificate embedded) }
+        ensures refused { IfErr result (λ e. (value : whole.CertificateInner P) → Spells ⟦<CertificateInner<P> as Grammar>⟧.form value certificate.now.bytes.now
+            → Refuses embedded_timestamps value.tbs_certificate e ⊎ LacksTimestamps value.tbs_certificate e) }
     {
         let part = LoggedPart::from_certificate(certificate)?;
         let tbs_certificate = part.to_der(alloc)?;
@@ -115,7 +132,8 @@ impl EmbeddedTimestamps {
 
     /// The entry that a log has of the precertificate.
     pub fn entry(&self) -> SignedEntry<'_>
-        ensures { entry_of result ≡ entry_of_embedded self.now }
+        ensures is { entry_of result ≡ entry_of_embedded self.now }
+        ensures octets { certificate_of result ≡ self.now.tbs_certificate.items }
     {
         SignedEntry::Precert(PreCert {
             issuer_key_hash: self.issuer_key_hash,
@@ -134,11 +152,13 @@ impl EmbeddedTimestamps {
     ///
     /// # Errors
     ///
-    /// An error of TLS: where the SCT is of no known version or algorithm, or its bytes are none of an SCT; `InvalidVectorLength` where the
-    /// TBSCertificate has more than 16,777,215 octets; out of memory.
+    /// An error of TLS, the first from the left, exactly where the SCT is of no known version or algorithm, or its bytes are none of an SCT;
+    /// else `InvalidVectorLength` exactly where the TBSCertificate has more than 16,777,215 octets. `Memory` when out of memory.
     pub fn signed(&self, alloc: Global, place: usize) -> Result<Option<SignedTimestamp>, LogError>
-        ensures { IfOk result (λ found. MatchOption found (length self.now.timestamps.items ≤ place)
+        ensures found { IfOk result (λ found. MatchOption found (length self.now.timestamps.items ≤ place)
             (λ signed. (sct : serialized.SerializedSct) × (slice_get self.now.timestamps.items place ≡ Some sct) × IsSigned (entry_of_embedded self.now) sct signed)) }
+        ensures refused { IfErr result (λ e. (sct : serialized.SerializedSct) × (slice_get self.now.timestamps.items place ≡ Some sct)
+            × IsUnsigned self.now.tbs_certificate.items sct e) }
     {
         match self.timestamps.get(place) {
             None => Ok(None),

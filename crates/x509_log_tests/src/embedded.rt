@@ -5,6 +5,7 @@ use sha2::{Digest, Sha256};
 use std::test::*;
 use x509_base::Rfc5280;
 use x509_check::CertificateRef;
+use x509_der::ErrorKind;
 use x509_log::{EmbeddedTimestamps, LogError, issuer_key_hash};
 
 /// A certificate with one SCT, and its issuer's: `test/certs/embeddedSCTs1.pem` and `embeddedSCTs1_issuer.pem` of OpenSSL 3.0 (Apache License 2.0).
@@ -193,4 +194,27 @@ fn keys(rt: HostRuntime) -> Result<(), Fail> {
     let issuer = CertificateRef::<Rfc5280>::from_der(ISSUER)?;
     assert!(rt; issuer_key_hash(&issuer) == KEY_HASH);
     Ok(())
+}
+
+/// Whether the certificate is refused as malformed where that octet of it is a 5: 594 is the identifier of the OCTET STRING in the
+/// extension, whose content is the list.
+fn is_malformed(rt: &HostRuntime, place: usize) -> bool {
+    let mut bytes = [0; 1021];
+    bytes.copy_from_slice(CERTIFICATE);
+    if let Some(octet) = bytes.get_mut(place) {
+        *octet = 5;
+    }
+    let Ok(certificate) = CertificateRef::<Rfc5280>::from_der(&bytes) else {
+        return false;
+    };
+    match EmbeddedTimestamps::from_certificate(rt.alloc(), &certificate, &certificate) {
+        Err(LogError::Der(e)) => e.kind() == ErrorKind::Malformed,
+        _ => false,
+    }
+}
+
+#[test]
+fn malformed(rt: HostRuntime) {
+    assert!(rt; is_malformed(&rt, 594));
+    assert!(rt; !is_malformed(&rt, 1020));
 }

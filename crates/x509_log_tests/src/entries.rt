@@ -1,7 +1,7 @@
 //! Leaves, chains and tree heads, as logs give them.
 
 use std::test::*;
-use x509_log::{CertificateChain, MerkleTreeLeaf, PrecertChainEntry, TreeHead};
+use x509_log::{CertificateChain, MerkleTreeLeaf, PrecertChainEntry, TlsByteVecU24, TreeHead};
 use x509_sct::Version;
 use x509_sct::tls::{Tls, TlsError, read_whole};
 
@@ -61,6 +61,21 @@ fn chains(rt: HostRuntime) {
     );
     assert!(rt; fault::<CertificateChain>(&rt, &[0, 0, 3, 0, 0]) == Some(TlsError::EndOfStream));
     assert!(rt; is_same::<PrecertChainEntry>(&rt, &[0, 0, 1, 0x30, 0, 0, 4, 0, 0, 1, 0x31]));
+}
+
+/// Whether a vector of the bytes holds them; of no bytes there is none.
+fn holds(rt: &HostRuntime, bytes: &[u8]) -> bool {
+    match TlsByteVecU24::from_slice(rt.alloc(), bytes) {
+        Ok(vector) => vector.as_slice() == bytes,
+        Err(e) => e == TlsError::InvalidVectorLength && bytes.is_empty(),
+    }
+}
+
+#[test]
+fn vectors(rt: HostRuntime) {
+    assert!(rt; holds(&rt, &[]));
+    assert!(rt; holds(&rt, &[7]));
+    assert!(rt; holds(&rt, &HEAD));
 }
 
 #[test]

@@ -21,8 +21,8 @@ done_further program subject world headed (other ∷ names) name old middle new 
     (h.0, h.1, max h.2 status, h.3, behind, rw h.5 (max-assoc h.1 h.2 status))
 
 -- words that ask for nothing
-pub misused : {P : Type 0} (asked : List (List ℕ) → List (List ℕ) → Option (P × List (List ℕ))) (options names : List (List ℕ)) → has_option (codes "--help") options ≡ false → has_option (codes "--version") options ≡ false → None ≡ asked options names → call_from asked options names ≡ Misused
-misused asked options names no_help no_version none = rw (no_help, no_version, sym none) refl
+pub misused : {P : Type 0} (asked : List (List ℕ) → List (List ℕ) → Option (P × List (List ℕ))) (misuse : List (List ℕ) → List (List ℕ) → List ℕ) (options names : List (List ℕ)) → has_option (codes "--help") options ≡ false → has_option (codes "--version") options ≡ false → None ≡ asked options names → call_from asked misuse options names ≡ Misused (misuse options names)
+misused asked misuse options names no_help no_version none = rw (no_help, no_version, sym none) refl
 
 -- one input more, of the names so far
 pub done_next : {X R F W E : Type 0} (view : X → List ℕ) (program : List ℕ) (subject : Subject) (world : World R F W E) (headed : Headed) (names : List X) (i : ℕ) (d : X) (old middle new : Streams R W E) (worst status : ℕ) → i < length names → AreDone program subject world headed (map view (take i names)) old middle worst → IsDone program subject world headed (view (get_or names i d)) middle new status → AreDone program subject world headed (map view (take (i + 1) names)) old new (max worst status)

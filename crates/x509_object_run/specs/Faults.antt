@@ -23,9 +23,9 @@ looks_of (byte ∷ bytes) =
 
 abbrev pub looks_text : Looks → List ℕ
 looks_text Empty = codes "; it is empty"
-looks_text PemCrl = codes "; this looks like PEM: `openssl crl -outform DER`"
-looks_text PemCsr = codes "; this looks like PEM: `openssl req -outform DER`"
-looks_text Pem = codes "; this looks like PEM: `openssl x509 -outform DER`"
+looks_text PemCrl = codes "; this looks like PEM, but not of one object: `openssl crl -outform DER`"
+looks_text PemCsr = codes "; this looks like PEM, but not of one object: `openssl req -outform DER`"
+looks_text Pem = codes "; this looks like PEM, but not of one object: `openssl x509 -outform DER`"
 looks_text Other = []
 
 abbrev pub opening_text : OpenError → List ℕ

@@ -11,6 +11,10 @@ abbrev pub is_empty : List ℕ → Bool
 is_empty [] = true
 is_empty (byte ∷ bytes) = false
 
+-- a word itself, unless it could end a line
+abbrev pub word_label : List ℕ → List ℕ
+word_label word = if list_any is_ascii_control word then codes "(a word with control characters)" else word
+
 -- a name itself, unless it could end a line or is none
 abbrev pub label_of : List ℕ → List ℕ
 label_of name =

@@ -1,5 +1,5 @@
 -- What a program over objects prints of an input.
-use Rattle.std.specs.Prelude.{◌≡◌, ◌⊎◌, ℕ, Bool, true, false, List, [], ◌++◌, not, codes, filter, Option, Result, Ok, Err}
+use Rattle.std.specs.Prelude.{◌≡◌, ◌⊎◌, ℕ, Bool, List, [], ◌∷◌, ◌++◌, not, codes, filter, Option, Some, None, Result, Ok, Err}
 use Rattle.std.specs.Char.{is_ascii_whitespace}
 use Rattle.hex.specs.Hex.{decode_of}
 use Rattle.hex.specs.declared.error.FromHexError.{FromHexError}
@@ -13,6 +13,7 @@ use Rattle.x509_object_run.specs.declared.heading.Heading.{Heading}
 use Rattle.x509_object_run.specs.declared.fault.PrintError.{PrintError}
 use Rattle.x509_object_run.specs.declared.fault.PrintError.TheVariants.{NoObject, Unwritten, Memory}
 use Rattle.x509_tool_run.specs.Input.{Input, Whole, TooLong, Unreadable, Unkept, IsRead}
+use Rattle.x509_tool_run.specs.Pem.{pem_objects}
 use Rattle.x509_tool_run.specs.Program.{IsWritten, IsCutOff}
 use Rattle.x509_tool_run.specs.declared.refusal.Refusal.{Refusal}
 use Rattle.x509_tool_run.specs.declared.refusal.Refusal.TheVariants.{Read, Because}
@@ -26,9 +27,21 @@ decoded_or others (Err e) = others
 abbrev pub without_blanks : List ℕ → List ℕ
 without_blanks input = filter (λ byte. not (is_ascii_whitespace byte)) input
 
--- the bytes that an input is of: those of its hex digits where it is hex text, white space aside; else the input itself
+-- the one object, where there is one
+abbrev pub one_of : Option (List (List ℕ)) → Option (List ℕ)
+one_of None = None
+one_of (Some []) = None
+one_of (Some (object ∷ [])) = Some object
+one_of (Some (object ∷ other ∷ objects)) = None
+
+abbrev pub else_text : List ℕ → Option (List ℕ) → List ℕ
+else_text input (Some object) = object
+else_text input None = decoded_or input (decode_of (without_blanks input))
+
+-- The bytes that an input is of: those of its PEM, where it has one object; those of its hex digits where it is hex text, white space aside; else the input
+-- itself.
 abbrev pub object_bytes : List ℕ → List ℕ
-object_bytes input = decoded_or input (decode_of (without_blanks input))
+object_bytes input = else_text input (one_of (pem_objects input))
 
 -- the text of a heading: a name, and what ends the line behind it
 abbrev pub heading_text : Heading → List ℕ

@@ -1,5 +1,5 @@
 -- What a program over objects does, from its words to its status.
-use Rattle.std.specs.Prelude.{◌≡◌, ◌⊎◌, ℕ, max, Bool, true, false, List, [], ◌∷◌, codes, length, Option, Some, None, Result, Ok, Err, ltb, if◌then◌else◌}
+use Rattle.std.specs.Prelude.{◌≡◌, ◌⊎◌, ℕ, max, Bool, true, false, List, [], ◌∷◌, ◌++◌, codes, length, Option, Some, None, Result, Ok, Err, ltb, if◌then◌else◌}
 use Rattle.x509_object_run.specs.Faults.{complaint, fault_text, short_complaint}
 use Rattle.x509_object_run.specs.Labels.{is_standard, label_of}
 use Rattle.x509_object_run.specs.Object.{IsSourceShown, Steps, Subject, heading_for}
@@ -82,22 +82,22 @@ pub data Call (P : Type 0) : Type 0 where
   Version : Call P
   -- to print these inputs
   Over : (printer : P) (names : List (List ℕ)) → Call P
-  -- its words ask for nothing that it knows
-  Misused : Call P
+  -- its words ask for nothing that it knows, and this is told of them
+  Misused : (told : List ℕ) → Call P
 
-abbrev pub over : {P : Type 0} → Option (P × List (List ℕ)) → Call P
-over None = Misused
-over (Some found) = Over found.0 found.1
+abbrev pub over : {P : Type 0} → List ℕ → Option (P × List (List ℕ)) → Call P
+over told None = Misused told
+over told (Some found) = Over found.0 found.1
 
 -- `--help` and `--version` stand anywhere among the options; of other words the printer says what they ask for
-abbrev pub call_from : {P : Type 0} → (List (List ℕ) → List (List ℕ) → Option (P × List (List ℕ))) → List (List ℕ) → List (List ℕ) → Call P
-call_from asked options names =
+abbrev pub call_from : {P : Type 0} → (List (List ℕ) → List (List ℕ) → Option (P × List (List ℕ))) → (List (List ℕ) → List (List ℕ) → List ℕ) → List (List ℕ) → List (List ℕ) → Call P
+call_from asked misuse options names =
     if has_option (codes "--help") options then Help
     else if has_option (codes "--version") options then Version
-    else over (asked options names)
+    else over (misuse options names) (asked options names)
 
-abbrev pub call_of : {P : Type 0} → (List (List ℕ) → List (List ℕ) → Option (P × List (List ℕ))) → List (List ℕ) → Call P
-call_of asked words = call_from asked (options_of words) (names_of words)
+abbrev pub call_of : {P : Type 0} → (List (List ℕ) → List (List ℕ) → Option (P × List (List ℕ))) → (List (List ℕ) → List (List ℕ) → List ℕ) → List (List ℕ) → Call P
+call_of asked misuse words = call_from asked misuse (options_of words) (names_of words)
 
 -- a text is written with status 0; where it can't be, that is told, with status 2
 abbrev pub Says : {W E : Type 0} → List ℕ → Steps W → Steps E → List ℕ → W → W → E → E → ℕ → Type 0
@@ -120,8 +120,8 @@ IsRun program subject world Version old new status =
     × Says program.name world.takes world.takes_errors (as_line (version_text program.name)) old.output new.output old.errors new.errors status
 IsRun program subject world (Over printer names) old new status =
     AreDone program.name (subject printer) world (are_headed (subject printer) (inputs_of names)) (inputs_of names) old new status
-IsRun program subject world Misused old new status =
-    (new.input ≡ old.input) × (new.output ≡ old.output) × IsTold world.takes_errors old.errors (as_line program.usage) new.errors × (status ≡ 2)
+IsRun program subject world (Misused told) old new status =
+    (new.input ≡ old.input) × (new.output ≡ old.output) × IsTold world.takes_errors old.errors (told ++ as_line program.usage) new.errors × (status ≡ 2)
 
 -- or there is no memory for its words, and it does nothing else than tell so
 abbrev pub IsUnkept : {R W E : Type 0} → Program → Steps E → Streams R W E → Streams R W E → ℕ → Type 0

@@ -57,9 +57,12 @@ impl Looks {
     {
         match self {
             Looks::Empty => b"; it is empty",
-            Looks::PemCrl => b"; this looks like PEM: `openssl crl -outform DER`",
-            Looks::PemCsr => b"; this looks like PEM: `openssl req -outform DER`",
-            Looks::Pem => b"; this looks like PEM: `openssl x509 -outform DER`",
+            Looks::PemCrl =>
+                b"; this looks like PEM, but not of one object: `openssl crl -outform DER`",
+            Looks::PemCsr =>
+                b"; this looks like PEM, but not of one object: `openssl req -outform DER`",
+            Looks::Pem =>
+                b"; this looks like PEM, but not of one object: `openssl x509 -outform DER`",
             Looks::Other => b"",
         }
     }

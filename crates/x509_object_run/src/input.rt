@@ -1,10 +1,13 @@
 //! The bytes of an object in an input.
 
-ghost use Rattle.std.specs.Prelude.{◌≡◌, IfOk};
-ghost use Rattle.x509_object_run.specs.Object.{object_bytes, without_blanks};
+ghost use Rattle.std.specs.Prelude.{◌≡◌, IfOk, None};
+ghost use Rattle.std.specs.Option.{option_map};
+ghost use Rattle.x509_object_run.specs.Object.{else_text, object_bytes, one_of, without_blanks};
+ghost use Rattle.x509_tool_run.specs.Pem.{pem_objects};
 
 use hex::FromHexError;
 use std::alloc::{AllocError, Global};
+use x509_tool_run::pem_objects;
 
 /// The bytes that are no white space.
 fn without_blanks(alloc: Global, input: &[u8]) -> Result<Vec<u8>, AllocError>
@@ -15,8 +18,34 @@ fn without_blanks(alloc: Global, input: &[u8]) -> Result<Vec<u8>, AllocError>
     Ok(digits)
 }
 
-/// The bytes that an input is of: those of its hex digits where it is hex text, with white space wherever it stands; else the input
-/// itself. DER of a certificate or a CRL is never hex text, since it holds bytes that are no digits.
+/// The object of the PEM (RFC 7468) of an input, where it has one and no other, whatever its label is.
+fn pem_object(alloc: Global, input: &[u8]) -> Result<Option<Vec<u8>>, AllocError>
+    ensures { IfOk result (λ found. option_map (λ object. object.items) found ≡ one_of (pem_objects input.now)) }
+{
+    let Some(mut objects) = pem_objects(alloc, input)? else {
+        return Ok(None);
+    };
+    match objects.as_slice() {
+        [_] => Ok(objects.pop()),
+        _ => Ok(None),
+    }
+}
+
+/// The bytes of hex text, with white space wherever it stands; else the input itself.
+fn text_bytes(alloc: Global, input: Vec<u8>) -> Result<Vec<u8>, AllocError>
+    ensures { IfOk result (λ bytes. bytes.items ≡ else_text input.items None) }
+{
+    let digits = without_blanks(alloc, input.as_slice())?;
+    match hex::decode(alloc, digits.as_slice()) {
+        Ok(bytes) => Ok(bytes),
+        Err(FromHexError::OutOfMemory) => Err(AllocError),
+        Err(_) => Ok(input),
+    }
+}
+
+/// The bytes that an input is of: those of its PEM, where it has one object; those of its hex digits where it is hex text, with white
+/// space wherever it stands; else the input itself. DER of a certificate or a CRL is never PEM or hex text, since it holds control
+/// characters.
 ///
 /// # Errors
 ///
@@ -24,10 +53,8 @@ fn without_blanks(alloc: Global, input: &[u8]) -> Result<Vec<u8>, AllocError>
 pub fn object_bytes(alloc: Global, input: Vec<u8>) -> Result<Vec<u8>, AllocError>
     ensures { IfOk result (λ bytes. bytes.items ≡ object_bytes input.items) }
 {
-    let digits = without_blanks(alloc, input.as_slice())?;
-    match hex::decode(alloc, digits.as_slice()) {
-        Ok(bytes) => Ok(bytes),
-        Err(FromHexError::OutOfMemory) => Err(AllocError),
-        Err(_) => Ok(input),
+    match pem_object(alloc, input.as_slice())? {
+        Some(object) => Ok(object),
+        None => text_bytes(alloc, input),
     }
 }

@@ -3,7 +3,7 @@
 ghost use Rattle.std.specs.Char.{is_ascii_control};
 ghost use Rattle.std.specs.List.{list_any};
 ghost use Rattle.std.specs.Prelude.{◌≡◌};
-ghost use Rattle.x509_object_run.specs.Labels.{is_standard, label_of};
+ghost use Rattle.x509_object_run.specs.Labels.{is_standard, label_of, word_label};
 
 /// Whether a name is that of standard input.
 pub(crate) fn is_standard(name: &str) -> bool
@@ -16,6 +16,16 @@ fn has_control(name: &[u8]) -> bool
     ensures { result ≡ list_any is_ascii_control name.now }
 {
     name.iter().any(|byte| byte.is_ascii_control())
+}
+
+/// What a word is called in messages: one that could end a line isn't written.
+pub fn word_label(word: &str) -> &str
+    ensures { result.now ≡ word_label word.now }
+{
+    if has_control(word.as_bytes()) {
+        return "(a word with control characters)";
+    }
+    word
 }
 
 /// What an input of this name is called in messages: a name that could end a line isn't written.

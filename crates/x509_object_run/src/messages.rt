@@ -10,14 +10,7 @@ ghost use Rattle.x509_object_run.specs.declared.fault.Fault.TheVariants.{Memory}
 
 use crate::fault::Fault;
 use crate::printer::Printer;
-use x509_tool_run::{Sink, VERSION, WriteError, write_text, write_texts};
-
-/// Writes a message, as far as it can be.
-pub(crate) fn tell<E: Sink>(errors: &mut E, message: &[u8])
-    ensures { IsTold E.takes errors.old message.now errors.new }
-{
-    let _ = write_text(errors, message);
-}
+use x509_tool_run::{Sink, VERSION, WriteError, write_texts};
 
 /// Why an input isn't shown, in words: two texts, one behind the other.
 fn reason<P: Printer>(printer: &P, fault: Fault) -> (&'static [u8], &'static [u8])
@@ -38,6 +31,19 @@ fn tell_texts<E: Sink>(errors: &mut E, texts: &[&[u8]])
     ensures { IsTold E.takes errors.old (flat_map (λ text. text.now) texts.now) errors.new }
 {
     let _ = write_texts(errors, texts);
+}
+
+/// Tells what is wrong with the words, and how the program is called.
+pub(crate) fn tell_misuse<'a, E: Sink>(
+    errors: &mut E,
+    what: &'a [u8],
+    word: &'a str,
+    end: &'a [u8],
+    usage: &'a [u8],
+)
+    ensures { IsTold E.takes errors.old ((what.now ++ (word.now ++ end.now)) ++ usage.now) errors.new }
+{
+    tell_texts(errors, &[what, word.as_bytes(), end, usage]);
 }
 
 /// Tells of an input.

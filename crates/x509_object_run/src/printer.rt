@@ -1,7 +1,7 @@
 //! What a program prints of an object.
 
 ghost use Rattle.std.specs.Option.{option_map};
-ghost use Rattle.std.specs.Prelude.{◌≡◌, ℕ, List, Option, map};
+ghost use Rattle.std.specs.Prelude.{◌≡◌, ◌++◌, ℕ, List, Option, map};
 ghost use Rattle.x509_object_run.specs.Object.{IsPrinted, Subject, heading_text};
 ghost use Rattle.x509_object_run.specs.Program.{Program};
 ghost use Rattle.x509_tool_run.specs.Answer.{as_line};
@@ -16,6 +16,9 @@ pub trait Printer: Sized + Drop {
     /// The printer that options and names ask for, where they ask for one, and the names of inputs among them.
     ghost asked: { List (List ℕ) → List (List ℕ) → Option (Self × List (List ℕ)) };
 
+    /// What is told above the usage where options and names ask for nothing: what is wrong with them, or nothing.
+    ghost misuse: { List (List ℕ) → List (List ℕ) → List ℕ };
+
     /// What the program says of itself.
     ghost program: { Program };
 
@@ -26,6 +29,10 @@ pub trait Printer: Sized + Drop {
     fn from_words<'a, 'b>(options: &[&str], names: &'a [&'b str]) -> Option<(Self, &'a [&'b str])>
         ensures { option_map (λ found. (found.0, map (λ name. name.now) found.1.now)) result
             ≡ asked (map (λ option. option.now) options.now) (map (λ name. name.now) names.now) };
+
+    /// What is told above the usage of words that ask for nothing: three texts, one behind the other, of which the second may be one of the names.
+    fn misuse<'b>(options: &[&'b str], names: &[&'b str]) -> (&'static [u8], &'b str, &'static [u8])
+        ensures { result.0.now ++ (result.1.now ++ result.2.now) ≡ misuse (map (λ option. option.now) options.now) (map (λ name. name.now) names.now) };
 
     /// The program's name.
     fn name() -> &'static [u8]

@@ -7,7 +7,7 @@ ghost use Rattle.x509_object_run.specs.Words.{inputs_of};
 ghost use Rattle.x509_object_run.specs.declared.fault.Fault.TheVariants.{Memory};
 
 use crate::files::Opener;
-use crate::messages::{complain_of_memory, say, say_version, tell};
+use crate::messages::{complain_of_memory, say, say_version, tell_misuse};
 use crate::printer::Printer;
 use crate::shown::do_all;
 use crate::words::{has_option, split};
@@ -60,7 +60,7 @@ fn obey<P: Printer, R: Source, F: Source + Drop, O: Opener<F>, W: Sink, E: Sink>
     errors: &mut E,
 ) -> u8
     ensures { IsRun P.program P.subject (world_of R.gives (O.opens opener.now) F.gives W.takes E.takes)
-        (call_from P.asked (map (λ option. option.now) options.now) (map (λ name. name.now) names.now))
+        (call_from P.asked P.misuse (map (λ option. option.now) options.now) (map (λ name. name.now) names.now))
         (streams reader.old writer.old errors.old) (streams reader.new writer.new errors.new) result }
 {
     if has_option(options, "--help") {
@@ -80,7 +80,8 @@ fn obey<P: Printer, R: Source, F: Source + Drop, O: Opener<F>, W: Sink, E: Sink>
             errors,
         ),
         None => {
-            tell(errors, P::usage());
+            let (what, word, end) = P::misuse(options, names);
+            tell_misuse(errors, what, word, end, P::usage());
             2
         }
     }
@@ -97,7 +98,7 @@ pub fn run<P: Printer, R: Source, F: Source + Drop, O: Opener<F>, W: Sink, E: Si
     errors: &mut E,
 ) -> u8
     ensures { IsRun P.program P.subject (world_of R.gives (O.opens opener.now) F.gives W.takes E.takes)
-        (call_of P.asked (map string_bytes words.now)) (streams reader.old writer.old errors.old) (streams reader.new writer.new errors.new) result
+        (call_of P.asked P.misuse (map string_bytes words.now)) (streams reader.old writer.old errors.old) (streams reader.new writer.new errors.new) result
         ⊎ IsUnkept P.program E.takes (streams reader.old writer.old errors.old) (streams reader.new writer.new errors.new) result }
 {
     match split(alloc, words) {

@@ -15,5 +15,6 @@ mod way_back;
 pub use anchor::{AnchorFlags, merged_policies};
 pub use checks::{ANY_POLICY, has_policy, has_repeated_policy, is_any_policy, maps_any_policy};
 pub use counters::PolicyCounters;
+pub use set::PolicySet;
 pub use state::{PolicyOutcome, PolicyReason, PolicyState, check_policies};
 pub use values::{MappingView, PolicySettings, PolicyView};

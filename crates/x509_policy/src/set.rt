@@ -1,4 +1,4 @@
-//! Sets of policies, asked whether they have one.
+//! Sets of policies, or of other OIDs, asked whether they have one.
 
 ghost use Rattle.std.specs.Prelude.{◌≡◌, List, length, nat_lt};
 ghost use Rattle.std.specs.Cmp.Lexicographic.{slice_cmp};
@@ -9,9 +9,9 @@ ghost use Rattle.x509_policy.specs.Views.{octets_of};
 
 use std::marker::Model;
 
-/// Policies, each once, in the order of their octets. Contracts see their list.
+/// Policies, or other OIDs, each once, in the order of their octets. Contracts see their list.
 #[derive(Drop)]
-pub(crate) struct PolicySet<'a> {
+pub struct PolicySet<'a> {
     policies: Vec<&'a [u8]>,
 }
 
@@ -25,7 +25,7 @@ impl<'a> Model for PolicySet<'a> {
 
 impl<'a> PolicySet<'a> {
     /// The set of these. It takes no memory.
-    pub(crate) fn new(policies: Vec<&'a [u8]>) -> PolicySet<'a>
+    pub fn new(policies: Vec<&'a [u8]>) -> PolicySet<'a>
         ensures same { has result ≡ has (octets_of policies.entry.items) }
         ensures once { is_repeated (octets_of policies.entry.items) ≡ nat_lt (length result) (length policies.entry.items) }
     {
@@ -43,7 +43,7 @@ impl<'a> PolicySet<'a> {
     }
 
     /// Whether the policy is in the set, in time that grows with the logarithm of how many there are.
-    pub(crate) fn contains(&self, policy: &[u8]) -> bool
+    pub fn contains(&self, policy: &[u8]) -> bool
         ensures { result ≡ has self.now policy.now }
     {
         self.policies

@@ -48,6 +48,10 @@ asked_of style (name ∷ names) = asked_with style (kind_of name) name names
 abbrev pub asked : List (List ℕ) → List (List ℕ) → Option (Show × List (List ℕ))
 asked options names = option_map (λ style. asked_of style names) (style_of options)
 
+-- nothing more is told of words that ask for nothing
+abbrev pub misuse : List (List ℕ) → List (List ℕ) → List ℕ
+misuse options names = []
+
 -- ---- what the program says of itself
 
 abbrev pub usage : List ℕ
@@ -56,8 +60,8 @@ usage = codes "usage: x509_show [certificate|crl|csr|anchor] [--json] [FILE..]"
 abbrev pub help : List ℕ
 help =
     codes "usage: x509_show [certificate|crl|csr|anchor] [--json] [FILE..]\n\n"
-    ++ codes "Prints certificates, CRLs, CSRs and trust anchors, in DER or hex: a line for each thing\n"
-    ++ codes "in them. Without a FILE, and where FILE is -, it reads standard input.\n\n"
+    ++ codes "Prints certificates, CRLs, CSRs and trust anchors, in DER, PEM or hex: a line for\n"
+    ++ codes "each thing in them. Without a FILE, and where FILE is -, it reads standard input.\n\n"
     ++ codes "  certificate, crl, csr, anchor  what each input is; without such a word it is tried\n"
     ++ codes "                                 as each of them, in this order\n"
     ++ codes "  --json                         prints a JSON array for each input\n"
@@ -73,11 +77,11 @@ program = record { name = codes "x509_show"; usage = usage; help = help }
 
 -- how it is told that bytes are no encoding of what was asked for
 abbrev pub no_object : Option Kind → List ℕ
-no_object None = codes "not a certificate, CRL, CSR or trust anchor in DER or hex"
-no_object (Some Certificate) = codes "not a certificate in DER or hex"
-no_object (Some Crl) = codes "not a CRL in DER or hex"
-no_object (Some Csr) = codes "not a CSR in DER or hex"
-no_object (Some Anchor) = codes "not a trust anchor in DER or hex"
+no_object None = codes "not a certificate, CRL, CSR or trust anchor in DER, PEM or hex"
+no_object (Some Certificate) = codes "not a certificate in DER, PEM or hex"
+no_object (Some Crl) = codes "not a CRL in DER, PEM or hex"
+no_object (Some Csr) = codes "not a CSR in DER, PEM or hex"
+no_object (Some Anchor) = codes "not a trust anchor in DER, PEM or hex"
 
 -- the document of the object that was asked for
 abbrev pub document_of : Option Kind → Style → List ℕ → Option (List ℕ)

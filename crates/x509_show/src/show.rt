@@ -14,8 +14,8 @@ use x509_tool_run::{Sink, WriteError};
 
 const HELP: &[u8] = b"usage: x509_show [certificate|crl|csr|anchor] [--json] [FILE..]
 
-Prints certificates, CRLs, CSRs and trust anchors, in DER or hex: a line for each thing
-in them. Without a FILE, and where FILE is -, it reads standard input.
+Prints certificates, CRLs, CSRs and trust anchors, in DER, PEM or hex: a line for
+each thing in them. Without a FILE, and where FILE is -, it reads standard input.
 
   certificate, crl, csr, anchor  what each input is; without such a word it is tried
                                  as each of them, in this order
@@ -81,11 +81,11 @@ fn no_object(kind: Option<Kind>) -> &'static [u8]
     ensures { result.now ≡ no_object kind }
 {
     match kind {
-        None => b"not a certificate, CRL, CSR or trust anchor in DER or hex",
-        Some(Kind::Certificate) => b"not a certificate in DER or hex",
-        Some(Kind::Crl) => b"not a CRL in DER or hex",
-        Some(Kind::Csr) => b"not a CSR in DER or hex",
-        Some(Kind::Anchor) => b"not a trust anchor in DER or hex",
+        None => b"not a certificate, CRL, CSR or trust anchor in DER, PEM or hex",
+        Some(Kind::Certificate) => b"not a certificate in DER, PEM or hex",
+        Some(Kind::Crl) => b"not a CRL in DER, PEM or hex",
+        Some(Kind::Csr) => b"not a CSR in DER, PEM or hex",
+        Some(Kind::Anchor) => b"not a trust anchor in DER, PEM or hex",
     }
 }
 
@@ -131,9 +131,11 @@ fn write_whole<'a, W: Sink>(
 /// The document of an object under a heading. Nothing is written before the object is known to be one. The document of a CRL is
 /// written piece by piece.
 impl Printer for Show {
-    ghost use Rattle.x509_show.specs.Show.{asked, program, subject};
+    ghost use Rattle.x509_show.specs.Show.{asked, misuse, program, subject};
 
     ghost asked = { asked };
+
+    ghost misuse = { misuse };
 
     ghost program = { program };
 
@@ -144,6 +146,13 @@ impl Printer for Show {
             Some(style) => Some(asked_of(style, names)),
             None => None,
         }
+    }
+
+    fn misuse<'b>(
+        _options: &[&'b str],
+        _names: &[&'b str],
+    ) -> (&'static [u8], &'b str, &'static [u8]) {
+        (b"", "", b"")
     }
 
     fn name() -> &'static [u8] {

@@ -3,10 +3,10 @@ use Rattle.std.proofs.Common.{◌≡◌, ℕ, List, Option, Result, Ok, Err, Mat
 use Rattle.std.specs.Str.{IsUtf8, is_utf8}
 use Rattle.std.proofs.lemmas.Bool.{cases_Bool}
 use Rattle.std.proofs.lemmas.Str.{is_utf8-from_IsUtf8, IsUtf8-from_is_utf8}
-use Rattle.x509_der.specs.declared.error.ErrorKind.TheVariants.{Memory, Failed}
+use Rattle.x509_der.specs.declared.error.ErrorKind.TheVariants.{Memory, Overlength, Malformed, Failed, SetDuplicate, Value}
 use Rattle.x509_tool_run.specs.declared.refusal.Refusal.{Refusal}
-use Rattle.x509_tool_run.specs.declared.refusal.Refusal.TheVariants.{Because}
-use Rattle.x509_tool_run.specs.Input.{Whole, IsRead}
+use Rattle.x509_tool_run.specs.declared.refusal.Refusal.TheVariants.{Read, Because}
+use Rattle.x509_tool_run.specs.Input.{Whole, TooLong, Unreadable, Unkept, EndsReading, IsRead}
 use Rattle.x509_tool_run.specs.Answer.{Answer, IsFromText, IsLine, line_of}
 use Rattle.x509_tool_run.specs.Program.{Answers}
 
@@ -20,6 +20,16 @@ answers_line P answers gives from to bytes line (Err refusal) read is (inl memor
 answers_line P answers gives from to bytes line (Err refusal) read is (inr h) =
     let At : List ℕ → Type 0 = λ line. answers line (Err refusal) in
     (Whole bytes, read, inl (subst At is h))
+
+-- a refusal to read is the answer
+pub answers_unread : {R X A : Type 0} (view : X → List ℕ) (answers : List ℕ → Result A Refusal → Type 0) (gives : R → Option (List ℕ) → R → Type 0) (from to : R) (refusal : Refusal) → EndsReading {X = X} view gives from (Err refusal) to → Answers answers gives from to (Err refusal)
+answers_unread view answers gives from to Read h = (Unreadable, h, inl refl)
+answers_unread view answers gives from to (Because Memory) h = (Unkept, h, inr refl)
+answers_unread view answers gives from to (Because Overlength) h = (TooLong, h, inl refl)
+answers_unread view answers gives from to (Because Malformed) h = absurd h
+answers_unread view answers gives from to (Because Failed) h = absurd h
+answers_unread view answers gives from to (Because SetDuplicate) h = absurd h
+answers_unread view answers gives from to (Because Value) h = absurd h
 
 -- a line that is UTF-8 is answered as the text that it is
 pub text_line : {X : Type 0} (view : X → List ℕ) (answers : List ℕ → Answer → Type 0) (line text : List ℕ) (result : Result X Refusal) → text ≡ line → IsUtf8 line → IsLine view (answers text) result → IsLine view (IsFromText answers (is_utf8 line) line) result

@@ -5,3 +5,4 @@ pub mod AnswerLemmas
 pub mod Known
 mod GivenWords
 pub mod Paths
+pub mod PemLines

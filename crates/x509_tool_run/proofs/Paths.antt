@@ -4,7 +4,8 @@ use Rattle.std.proofs.lemmas.List.{map_push}
 use Rattle.std.proofs.Math.Seq.{take-suc}
 use Rattle.hex.specs.Hex.{decode_of}
 use Rattle.hex.specs.declared.error.FromHexError.{FromHexError}
-use Rattle.x509_tool_run.specs.Path.{decode_all, fault_line, fault_text, in_front}
+use Rattle.x509_tool_run.specs.Path.{decode_all, fault_line, fault_text}
+use Rattle.x509_tool_run.specs.Pem.{in_front}
 use Rattle.x509_tool_run.specs.Answer.{as_line}
 
 -- what two lists of texts stand for, one behind the other

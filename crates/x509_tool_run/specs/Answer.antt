@@ -102,7 +102,7 @@ status_of (Err refusal) = 1
 
 -- how the program is called
 abbrev pub usage : List ℕ
-usage = codes "usage: x509_tool reencode TYPE [rfc5280|raw] | name | encode-name | path MOMENT"
+usage = codes "usage: x509_tool reencode TYPE [rfc5280|raw] | name | encode-name\n       x509_tool path [--any-signature] MOMENT"
 
 -- a text and a line feed
 abbrev pub as_line : List ℕ → List ℕ

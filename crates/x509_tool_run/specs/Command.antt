@@ -1,11 +1,13 @@
 -- What the words after the program's name ask for.
-use Rattle.std.specs.Prelude.{ℕ, List, [], ◌∷◌, Option, Some, None, codes, if◌then◌else◌}
+use Rattle.std.specs.Prelude.{ℕ, Bool, List, [], ◌∷◌, Option, Some, None, codes, if◌then◌else◌}
 use Rattle.std.specs.Str.{bytes_eq}
 use Rattle.x509_tool_run.specs.declared.command.Kind.{Kind}
 use Rattle.x509_tool_run.specs.declared.command.Kind.TheVariants.{Anchor, Any, Certificate, Crl, Extensions, GeneralNames, Integer, Name, Oid, Rdn, Request, Serial, Time, Validity}
 use Rattle.x509_codec.specs.ProfileNames.{profile_of}
 use Rattle.x509_codec.specs.declared.profile_name.ProfileName.{ProfileName}
 use Rattle.x509_codec.specs.declared.profile_name.ProfileName.TheVariants.{Rfc5280}
+use Rattle.x509_codec.specs.declared.signatures.Signatures.{Signatures}
+use Rattle.x509_codec.specs.declared.signatures.Signatures.TheVariants.{Echoes, Any as AnySignature}
 use Rattle.x509_tool_run.specs.declared.command.Command.{Command}
 use Rattle.x509_tool_run.specs.declared.command.Command.TheVariants as commands
 
@@ -67,7 +69,19 @@ command_of (command ∷ kind ∷ profile ∷ []) =
     if bytes_eq command (codes "reencode") then reencoding_of (kind_of kind) (profile_of profile) else None
 command_of words = None
 
--- `path MOMENT`: the text of the moment
-abbrev pub moment_of : List (List ℕ) → Option (List ℕ)
-moment_of (command ∷ moment ∷ []) = if bytes_eq command (codes "path") then Some moment else None
-moment_of words = None
+abbrev pub is_path : List ℕ → Bool
+is_path word = bytes_eq word (codes "path")
+
+-- `--any-signature`
+abbrev pub accepted_by : List ℕ → Option Signatures
+accepted_by word = if bytes_eq word (codes "--any-signature") then Some AnySignature else None
+
+abbrev pub at_moment : List ℕ → Option Signatures → Option (Signatures × List ℕ)
+at_moment moment None = None
+at_moment moment (Some accepted) = Some (accepted, moment)
+
+-- `path [--any-signature] MOMENT`: which signatures are accepted, and the text of the moment
+abbrev pub path_of : List (List ℕ) → Option (Signatures × List ℕ)
+path_of (command ∷ moment ∷ []) = if is_path command then Some (Echoes, moment) else None
+path_of (command ∷ option ∷ moment ∷ []) = if is_path command then at_moment moment (accepted_by option) else None
+path_of words = None

@@ -16,13 +16,19 @@ information_of words = None
 -- what the commands do, which types there are, and with which status the program ends
 abbrev pub help : List ℕ
 help =
-    codes "usage: x509_tool reencode TYPE [rfc5280|raw] | name | encode-name | path MOMENT\n\n"
+    codes "usage: x509_tool reencode TYPE [rfc5280|raw] | name | encode-name\n"
+    ++ codes "       x509_tool path [--any-signature] MOMENT\n\n"
     ++ codes "Reads a line from standard input and answers it with a line.\n\n"
     ++ codes "  reencode TYPE  decodes hex text of a TYPE and encodes the value again\n"
     ++ codes "  name           prints the name that hex text encodes\n"
     ++ codes "  encode-name    encodes a name as hex text\n"
-    ++ codes "  path MOMENT    checks a path at a moment, as 2026-01-02T03:04:05Z: hex texts of the\n"
-    ++ codes "                 trust anchor and of the certificates below it, a space between two\n"
+    ++ codes "  path MOMENT    checks a path at a moment, as 2026-01-02T03:04:05Z: PEM of the trust\n"
+    ++ codes "                 anchor and of the certificates below it, topmost first, or their hex texts\n"
+    ++ codes "                 on a line, a space between two. No signature is verified: one has to be\n"
+    ++ codes "                 the message itself, or with --any-signature may be any. Names are compared\n"
+    ++ codes "                 byte for byte, and there are no name constraints, policies and CRLs. A\n"
+    ++ codes "                 path is validated by validate_path in Rattle, Rust and Python, and by\n"
+    ++ codes "                 x509_path_validate in C\n"
     ++ codes "  --help         prints this text\n"
     ++ codes "  --version      prints the version\n\n"
     ++ codes "TYPE: anchor, any, certificate, crl, extensions, general-names, integer, name, oid,\n"

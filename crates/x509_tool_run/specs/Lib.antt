@@ -2,6 +2,7 @@ pub mod Transfer
 pub mod Command
 pub mod Input
 pub mod Answer
+pub mod Pem
 pub mod Path
 pub mod Program
 pub mod Words

@@ -2,13 +2,13 @@
 use Rattle.std.specs.Prelude.{◌≡◌, ℕ, List, [], ◌∷◌, ◌++◌, codes, ◌==◌, Option, Some, None, Result, Ok, Err}
 use Rattle.std.specs.List.{slice_split}
 use Rattle.hex.specs.Hex.{decode_of}
-use Rattle.hex.specs.declared.error.FromHexError.{FromHexError}
 use Rattle.x509_codec.specs.Answers.{PathStep}
 use Rattle.x509_der.specs.declared.error.ErrorKind.{ErrorKind}
 use Rattle.x509_der.specs.declared.error.ErrorKind.TheVariants.{Failed}
 use Rattle.x509_tool_run.specs.declared.refusal.Refusal.{Refusal}
 use Rattle.x509_tool_run.specs.declared.refusal.Refusal.TheVariants.{Because}
 use Rattle.x509_tool_run.specs.Answer.{as_line, text_of}
+use Rattle.x509_tool_run.specs.Pem.{in_front, pem_objects}
 
 -- what is said of a path: nothing where it holds, else its first fault; or a refusal
 abbrev pub Verdict : Type 0
@@ -18,16 +18,20 @@ Verdict = Result (Option (List ℕ)) Refusal
 abbrev pub texts_of : List ℕ → List (List ℕ)
 texts_of line = slice_split (λ byte. byte == 32) line
 
--- the bytes of a text in front of those of others, where each is hex text
-abbrev pub in_front : Result (List ℕ) FromHexError → Option (List (List ℕ)) → Option (List (List ℕ))
-in_front (Ok bytes) (Some others) = Some (bytes ∷ others)
-in_front (Ok bytes) None = None
-in_front (Err e) others = None
-
 -- the bytes that texts stand for, where each is hex text
 abbrev pub decode_all : List (List ℕ) → Option (List (List ℕ))
 decode_all [] = Some []
 decode_all (text ∷ texts) = in_front (decode_of text) (decode_all texts)
+
+-- the objects of PEM, or else what hex texts stand for
+abbrev pub objects_or : List ℕ → Option (List (List ℕ)) → Option (List (List ℕ))
+objects_or line None = None
+objects_or line (Some []) = decode_all (texts_of line)
+objects_or line (Some (object ∷ objects)) = Some (object ∷ objects)
+
+-- the certificates that a line has, which may be lines of PEM
+abbrev pub certificates_of : List ℕ → Option (List (List ℕ))
+certificates_of line = objects_or line (pem_objects line)
 
 -- what was said, as a verdict
 abbrev pub said : Result (Option (List ℕ)) ErrorKind → Verdict
@@ -42,9 +46,9 @@ IsVerdict checks moment (Some (anchor ∷ [])) verdict = verdict ≡ Err (Becaus
 IsVerdict checks moment (Some []) verdict = verdict ≡ Err (Because Failed)
 IsVerdict checks moment None verdict = verdict ≡ Err (Because Failed)
 
--- the verdict on a line of hex texts
+-- the verdict on a line with certificates
 abbrev pub IsPathLine : PathStep → List ℕ → List ℕ → Verdict → Type 0
-IsPathLine checks moment line verdict = IsVerdict checks moment (decode_all (texts_of line)) verdict
+IsPathLine checks moment line verdict = IsVerdict checks moment (certificates_of line) verdict
 
 -- how a fault reads
 abbrev pub fault_text : List ℕ → List ℕ

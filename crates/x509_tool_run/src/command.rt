@@ -2,9 +2,9 @@
 
 ghost use Rattle.std.specs.Option.{option_map};
 ghost use Rattle.std.specs.Prelude.{◌≡◌, map, string_bytes, ◌∷◌, []};
-ghost use Rattle.x509_tool_run.specs.Command.{kind_of, type_name, name_command_of, command_of, moment_of};
+ghost use Rattle.x509_tool_run.specs.Command.{kind_of, type_name, name_command_of, command_of, is_path, accepted_by, path_of};
 
-use x509_codec::ProfileName;
+use x509_codec::{ProfileName, Signatures};
 
 /// A type whose encodings the program decodes.
 #[derive(Clone, Copy, Debug, PartialEq, Eq)]
@@ -147,12 +147,33 @@ impl Command {
     }
 }
 
-/// The text of the moment, where the words are `path MOMENT`.
-pub fn path_moment(words: &[String]) -> Option<&str>
-    ensures { option_map (λ moment. moment.now) result ≡ moment_of (map string_bytes words.now) }
+fn is_path(word: &str) -> bool
+    ensures { result ≡ is_path word.now }
+{
+    word == "path"
+}
+
+/// Which signatures are accepted by a word between `path` and the moment.
+fn accepted_by(word: &str) -> Option<Signatures>
+    ensures { result ≡ accepted_by word.now }
+{
+    match word {
+        "--any-signature" => Some(Signatures::Any),
+        _ => None,
+    }
+}
+
+/// Which signatures are accepted, and the text of the moment, where the words are `path [--any-signature] MOMENT`.
+pub fn path_asked(words: &[String]) -> Option<(Signatures, &str)>
+    ensures { option_map (λ asked. (asked.0, asked.1.now)) result ≡ path_of (map string_bytes words.now) }
 {
     match words {
-        [command, moment] if command.as_str() == "path" => Some(moment.as_str()),
+        [command, moment] if is_path(command.as_str()) => {
+            Some((Signatures::Echoes, moment.as_str()))
+        }
+        [command, option, moment] if is_path(command.as_str()) => {
+            Some((accepted_by(option.as_str())?, moment.as_str()))
+        }
         _ => None,
     }
 }

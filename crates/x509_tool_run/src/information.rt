@@ -9,16 +9,21 @@ use crate::output::{Sink, WriteError, write_texts};
 use crate::program::say;
 use crate::version::VERSION;
 
-const HELP: &[u8] =
-    b"usage: x509_tool reencode TYPE [rfc5280|raw] | name | encode-name | path MOMENT
+const HELP: &[u8] = b"usage: x509_tool reencode TYPE [rfc5280|raw] | name | encode-name
+       x509_tool path [--any-signature] MOMENT
 
 Reads a line from standard input and answers it with a line.
 
   reencode TYPE  decodes hex text of a TYPE and encodes the value again
   name           prints the name that hex text encodes
   encode-name    encodes a name as hex text
-  path MOMENT    checks a path at a moment, as 2026-01-02T03:04:05Z: hex texts of the
-                 trust anchor and of the certificates below it, a space between two
+  path MOMENT    checks a path at a moment, as 2026-01-02T03:04:05Z: PEM of the trust
+                 anchor and of the certificates below it, topmost first, or their hex texts
+                 on a line, a space between two. No signature is verified: one has to be
+                 the message itself, or with --any-signature may be any. Names are compared
+                 byte for byte, and there are no name constraints, policies and CRLs. A
+                 path is validated by validate_path in Rattle, Rust and Python, and by
+                 x509_path_validate in C
   --help         prints this text
   --version      prints the version
 

@@ -10,15 +10,17 @@ mod input;
 pub mod laws;
 mod output;
 mod path;
+mod pem;
 mod program;
 mod refusal;
 mod version;
 
 pub use arguments::{Arguments, words};
-pub use command::{Command, Kind, path_moment};
+pub use command::{Command, Kind, path_asked};
 pub use information::Information;
 pub use input::{INPUT_LIMIT, READ_LIMIT, ReadError, Source, read_input};
 pub use output::{Sink, WriteError, write_text, write_texts};
+pub use pem::pem_objects;
 pub use program::{bytes_of, refuse_memory, run};
 pub use refusal::Refusal;
 pub use version::VERSION;

@@ -5,14 +5,15 @@ ghost use Rattle.std.specs.Option.{option_map};
 ghost use Rattle.x509_der.specs.declared.error.ErrorKind.TheVariants.{Memory, Failed};
 ghost use Rattle.x509_tool_run.specs.declared.refusal.Refusal.TheVariants.{Because};
 ghost use Rattle.x509_tool_run.specs.Answer.{as_line};
-ghost use Rattle.x509_tool_run.specs.Path.{IsPathLine, decode_all, fault_line, fault_text, texts_of};
+ghost use Rattle.x509_tool_run.specs.Path.{IsPathLine, certificates_of, decode_all, fault_line, fault_text, texts_of};
 ghost use Rattle.x509_tool_run.specs.Program.{Answers};
 
 use crate::input::{Source, read_input};
+use crate::pem::pem_objects;
 use crate::program::{bytes_of, line_of};
 use crate::refusal::Refusal;
 use std::alloc::{AllocError, Global};
-use x509_codec::PathCodec;
+use x509_codec::{PathCodec, Signatures};
 use x509_der::ErrorKind;
 
 /// The texts between single spaces.
@@ -37,25 +38,48 @@ fn decode_all(alloc: Global, texts: &[&[u8]]) -> Result<Vec<Vec<u8>>, Refusal>
     Ok(decoded)
 }
 
-/// The first fault of the path whose hex texts a line is, if it has one.
+/// The bytes that a line of hex texts stands for.
+fn decode_line(alloc: Global, line: &[u8]) -> Result<Vec<Vec<u8>>, Refusal>
+    ensures { MatchResult result
+        (λ decoded. decode_all (texts_of line.now) ≡ Some (map (λ bytes. bytes.items) decoded.items))
+        (λ refusal. (refusal ≡ Because Memory) ⊎ ((refusal ≡ Because Failed) × (decode_all (texts_of line.now) ≡ None))) }
+{
+    let texts = texts_of(alloc, line)?;
+    decode_all(alloc, texts.as_slice())
+}
+
+/// The certificates that a line has: those of its PEM, or of its hex texts where it has no PEM.
+fn certificates_of(alloc: Global, line: &[u8]) -> Result<Vec<Vec<u8>>, Refusal>
+    ensures { MatchResult result
+        (λ found. certificates_of line.now ≡ Some (map (λ bytes. bytes.items) found.items))
+        (λ refusal. (refusal ≡ Because Memory) ⊎ ((refusal ≡ Because Failed) × (certificates_of line.now ≡ None))) }
+{
+    match pem_objects(alloc, line)? {
+        None => Err(Refusal::Because(ErrorKind::Failed)),
+        Some(objects) if objects.is_empty() => decode_line(alloc, line),
+        Some(objects) => Ok(objects),
+    }
+}
+
+/// The first fault of the path whose certificates a line has, if it has one.
 fn check_line<C: PathCodec>(
     alloc: Global,
+    accepted: Signatures,
     moment: &str,
     line: &[u8],
 ) -> Result<Option<String>, Refusal>
     ensures { MatchResult result
-        (λ fault. IsPathLine C.checks_path moment.now line.now (Ok (option_map string_bytes fault)))
-        (λ refusal. (refusal ≡ Because Memory) ⊎ IsPathLine C.checks_path moment.now line.now (Err refusal)) }
+        (λ fault. IsPathLine (C.checks_path accepted) moment.now line.now (Ok (option_map string_bytes fault)))
+        (λ refusal. (refusal ≡ Because Memory) ⊎ IsPathLine (C.checks_path accepted) moment.now line.now (Err refusal)) }
 {
-    let texts = texts_of(alloc, line)?;
-    let certificates = decode_all(alloc, texts.as_slice())?;
+    let certificates = certificates_of(alloc, line)?;
     let [anchor, path @ ..] = certificates.as_slice() else {
         return Err(Refusal::Because(ErrorKind::Failed));
     };
     if path.is_empty() {
         return Err(Refusal::Because(ErrorKind::Failed));
     }
-    Ok(C::check_path(alloc, moment, anchor.as_slice(), path)?)
+    Ok(C::check_path(alloc, accepted, moment, anchor.as_slice(), path)?)
 }
 
 /// The line that tells of a fault.
@@ -65,17 +89,20 @@ fn fault_line(alloc: Global, fault: &str) -> Result<String, AllocError>
     format!(in alloc; "fault {fault}\n")
 }
 
-/// The line that tells of the first fault of the path whose hex texts a line is, if it has one.
+/// The line that tells of the first fault of the path whose certificates a line has, if it has one.
 fn tell_fault<C: PathCodec>(
     alloc: Global,
+    accepted: Signatures,
     moment: &str,
     line: &[u8],
 ) -> Result<Option<String>, Refusal>
     ensures { MatchResult result
-        (λ told. (fault : Option (List ℕ)) × IsPathLine C.checks_path moment.now line.now (Ok fault) × (option_map string_bytes told ≡ fault_line fault))
-        (λ refusal. (refusal ≡ Because Memory) ⊎ IsPathLine C.checks_path moment.now line.now (Err refusal)) }
+        (λ told. (fault : Option (List ℕ))
+        × IsPathLine (C.checks_path accepted) moment.now line.now (Ok fault)
+        × (option_map string_bytes told ≡ fault_line fault))
+        (λ refusal. (refusal ≡ Because Memory) ⊎ IsPathLine (C.checks_path accepted) moment.now line.now (Err refusal)) }
 {
-    match check_line::<C>(alloc, moment, line)? {
+    match check_line::<C>(alloc, accepted, moment, line)? {
         None => Ok(None),
         Some(fault) => Ok(Some(fault_line(alloc, fault.as_str())?)),
     }
@@ -84,15 +111,16 @@ fn tell_fault<C: PathCodec>(
 /// Reads the input, and checks the path that its line is: the line that tells of its first fault, if it has one.
 pub(crate) fn read_and_check<C: PathCodec, R: Source>(
     alloc: Global,
+    accepted: Signatures,
     moment: &str,
     reader: &mut R,
 ) -> Result<Option<String>, Refusal>
     ensures { MatchResult result
         (λ told. (fault : Option (List ℕ))
-        × Answers (IsPathLine C.checks_path moment.now) R.gives reader.old reader.new (Ok fault)
+        × Answers (IsPathLine (C.checks_path accepted) moment.now) R.gives reader.old reader.new (Ok fault)
         × (option_map string_bytes told ≡ fault_line fault))
-        (λ refusal. Answers (IsPathLine C.checks_path moment.now) R.gives reader.old reader.new (Err refusal)) }
+        (λ refusal. Answers (IsPathLine (C.checks_path accepted) moment.now) R.gives reader.old reader.new (Err refusal)) }
 {
     let input = read_input(alloc, reader)?;
-    tell_fault::<C>(alloc, moment, line_of(input.as_slice()))
+    tell_fault::<C>(alloc, accepted, moment, line_of(input.as_slice()))
 }

@@ -5,12 +5,12 @@ ghost use Rattle.std.specs.Str.{is_utf8};
 ghost use Rattle.hex.specs.Hex.{decode_of, encode_upper};
 ghost use Rattle.x509_der.specs.declared.error.ErrorKind.TheVariants.{Memory, Failed};
 ghost use Rattle.x509_tool_run.specs.declared.refusal.Refusal.TheVariants.{Because};
-ghost use Rattle.x509_tool_run.specs.Command.{command_of, moment_of, type_name};
+ghost use Rattle.x509_tool_run.specs.Command.{command_of, path_of, type_name};
 ghost use Rattle.x509_tool_run.specs.Information.{information_of, information_text};
 ghost use Rattle.x509_tool_run.specs.Answer.{IsFromHex, IsFromText, IsLine, IsLineAnswer, IsReencoded, IsShown, as_line, codecs_of, line_of, text_of, usage};
 ghost use Rattle.x509_tool_run.specs.Program.{Says, Answers, ChecksPath, Obeys};
 
-use crate::command::{Command, Kind, path_moment};
+use crate::command::{Command, Kind, path_asked};
 use crate::information::{Information, tell};
 use crate::input::{Source, read_input};
 use crate::output::{Sink, WriteError, write_text};
@@ -18,11 +18,11 @@ use crate::path::read_and_check;
 use crate::refusal::Refusal;
 use hex::FromHexError;
 use std::alloc::Global;
-use x509_codec::{Codec, NameCodec, PathCodec, ProfileName};
+use x509_codec::{Codec, NameCodec, PathCodec, ProfileName, Signatures};
 use x509_der::ErrorKind;
 
 const USAGE: &[u8] =
-    b"usage: x509_tool reencode TYPE [rfc5280|raw] | name | encode-name | path MOMENT\n";
+    b"usage: x509_tool reencode TYPE [rfc5280|raw] | name | encode-name\n       x509_tool path [--any-signature] MOMENT\n";
 
 /// The line of an input: all of it but one final line feed.
 pub(crate) fn line_of(input: &[u8]) -> &[u8]
@@ -147,17 +147,18 @@ fn read_and_answer<C: Codec + NameCodec, R: Source>(
     answer::<C>(alloc, command, line_of(input.as_slice()))
 }
 
-/// Checks the path that the input is, at the moment of the text: says whether it holds or its first fault, and answers the
-/// status.
+/// Checks the path that the input is, at the moment of the text, where these signatures are accepted: says whether it holds or its first
+/// fault, and answers the status.
 fn check_and_say<C: PathCodec, R: Source, W: Sink>(
     alloc: Global,
+    accepted: Signatures,
     moment: &str,
     reader: &mut R,
     writer: &mut W,
 ) -> u8
-    ensures { ChecksPath C.checks_path moment.now R.gives reader.old reader.new W.takes writer.old writer.new result }
+    ensures { ChecksPath (C.checks_path accepted) moment.now R.gives reader.old reader.new W.takes writer.old writer.new result }
 {
-    match read_and_check::<C, R>(alloc, moment, reader) {
+    match read_and_check::<C, R>(alloc, accepted, moment, reader) {
         Ok(None) => say(writer, b"ok\n", 0),
         Ok(Some(line)) => say(writer, line.as_str().as_bytes(), 1),
         Err(refusal) => say(writer, refusal.line(), 1),
@@ -192,20 +193,20 @@ pub fn run<C: Codec + NameCodec + PathCodec, R: Source, W: Sink>(
     writer: &mut W,
 ) -> u8
     // With other words nothing is read.
-    ensures untouched { command_of (map string_bytes words.now) ≡ None → moment_of (map string_bytes words.now) ≡ None
+    ensures untouched { command_of (map string_bytes words.now) ≡ None → path_of (map string_bytes words.now) ≡ None
         → reader.new ≡ reader.old }
     ensures informs { IfSome (information_of (map string_bytes words.now)) (λ asked.
         Says W.takes writer.old (information_text asked) 0 writer.new result) }
-    ensures usage { command_of (map string_bytes words.now) ≡ None → moment_of (map string_bytes words.now) ≡ None
+    ensures usage { command_of (map string_bytes words.now) ≡ None → path_of (map string_bytes words.now) ≡ None
         → information_of (map string_bytes words.now) ≡ None → Says W.takes writer.old usage 2 writer.new result }
     ensures obeys { IfSome (command_of (map string_bytes words.now)) (λ command.
         Obeys (codecs_of C.reencodes C.prints_name C.encodes_name) command
         R.gives reader.old reader.new W.takes writer.old writer.new result) }
-    ensures path { IfSome (moment_of (map string_bytes words.now)) (λ moment.
-        ChecksPath C.checks_path moment R.gives reader.old reader.new W.takes writer.old writer.new result) }
+    ensures path { IfSome (path_of (map string_bytes words.now)) (λ asked.
+        ChecksPath (C.checks_path asked.0) asked.1 R.gives reader.old reader.new W.takes writer.old writer.new result) }
 {
-    if let Some(moment) = path_moment(words) {
-        return check_and_say::<C, R, W>(alloc, moment, reader, writer);
+    if let Some((accepted, moment)) = path_asked(words) {
+        return check_and_say::<C, R, W>(alloc, accepted, moment, reader, writer);
     }
     let Some(command) = Command::from_words(words) else {
         return tell_of_itself(writer, words);

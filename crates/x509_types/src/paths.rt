@@ -1,4 +1,5 @@
-//! Paths of certificates for the program. Signatures are echoes, which is no security: it serves to try the rest of a path.
+//! Paths of certificates for the program, which has no algorithms: a signature is an echo, or any is accepted. That is no security, and serves to try the
+//! rest of a path.
 
 ghost use Rattle.std.specs.Prelude.{◌≡◌, ◌⊎◌, map, string_bytes, Ok, Err, MatchResult};
 ghost use Rattle.std.specs.Option.{option_map};
@@ -7,23 +8,33 @@ ghost use Rattle.x509_der.specs.declared.error.ErrorKind.TheVariants.{Memory};
 ghost use Rattle.x509_der.specs.Form.{Spells};
 ghost use Rattle.x509_path.specs.Path.{Answers, subject_of};
 ghost use Rattle.x509_types.specs.Reencoding.{IsRefused};
-ghost use Rattle.x509_types.specs.Paths.{ChecksUnder, Tells, is_echo};
+ghost use Rattle.x509_types.specs.Paths.{ChecksUnder, Tells, accepting, is_echo};
 
 use crate::types::Types;
 use std::alloc::Global;
 use std::str::FromStr;
 use x509_base::{AlgorithmIdentifier, DateTime, SubjectPublicKeyInfo};
 use x509_cert::Certificate;
-use x509_codec::PathCodec;
+use x509_codec::{PathCodec, Signatures};
 use x509_der::{Decode, Error, ErrorKind, Grammar};
 use x509_path::{Anchor, PathFault, Verifier, check_path};
 use x509_prim::BitString;
 
-/// A verifier that accepts a message as its own signature, whatever the algorithm and the key.
-struct Echo;
+/// Whether a signature is the message itself.
+fn is_echo(message: &[u8], signature: &BitString) -> bool
+    ensures { result ≡ is_echo signature.now message.now }
+{
+    signature.unused_bits() == 0 && signature.raw_bytes() == message
+}
 
-impl Verifier for Echo {
-    ghost accepts = { λ echo. is_echo };
+/// A verifier that accepts these signatures, whatever the algorithm and the key.
+#[derive(Clone, Copy)]
+struct Accepting {
+    signatures: Signatures,
+}
+
+impl Verifier for Accepting {
+    ghost accepts = { λ it. accepting it.signatures };
 
     fn verify(
         &self,
@@ -32,7 +43,10 @@ impl Verifier for Echo {
         message: &[u8],
         signature: &BitString,
     ) -> bool {
-        signature.unused_bits() == 0 && signature.raw_bytes() == message
+        match self.signatures {
+            Signatures::Echoes => is_echo(message, signature),
+            Signatures::Any => true,
+        }
     }
 }
 
@@ -42,12 +56,21 @@ fn first_fault(
     anchor: &Anchor,
     path: &[Vec<u8>],
     moment: DateTime,
+    accepted: Signatures,
 ) -> Result<Option<String>, Error>
     ensures { MatchResult result
-        (λ fault. Tells (Answers is_echo moment anchor.now (map (λ input. input.items) path.now)) (Ok (option_map string_bytes fault)))
+        (λ fault. Tells (Answers (accepting accepted) moment anchor.now (map (λ input. input.items) path.now)) (Ok (option_map string_bytes fault)))
         (λ e. e.kind ≡ Memory) }
 {
-    match check_path(alloc, anchor, path, moment, &Echo) {
+    match check_path(
+        alloc,
+        anchor,
+        path,
+        moment,
+        &Accepting {
+            signatures: accepted,
+        },
+    ) {
         Ok(()) => Ok(None),
         Err(PathFault::Memory) => Err(ErrorKind::Memory.into()),
         Err(fault) => Ok(Some(fault.to_string(alloc)?)),
@@ -60,13 +83,15 @@ fn first_fault_under(
     certificate: &Certificate,
     path: &[Vec<u8>],
     moment: DateTime,
+    accepted: Signatures,
 ) -> Result<Option<String>, Error>
     ensures { MatchResult result
-        (λ fault. Tells (Answers is_echo moment (subject_of certificate.now) (map (λ input. input.items) path.now)) (Ok (option_map string_bytes fault)))
+        (λ fault. Tells (Answers (accepting accepted) moment (subject_of certificate.now) (map (λ input. input.items) path.now))
+        (Ok (option_map string_bytes fault)))
         (λ e. e.kind ≡ Memory) }
 {
     let anchor = Anchor::from_certificate(alloc, certificate)?;
-    first_fault(alloc, &anchor, path, moment)
+    first_fault(alloc, &anchor, path, moment, accepted)
 }
 
 /// The certificate of these bytes.
@@ -84,31 +109,35 @@ fn read_certificate(alloc: Global, bytes: &[u8]) -> Result<Certificate, Error>
 /// The same under the subject and the key of the certificate that the bytes are.
 fn check_under(
     alloc: Global,
+    accepted: Signatures,
     moment: DateTime,
     anchor: &[u8],
     path: &[Vec<u8>],
 ) -> Result<Option<String>, Error>
     ensures { MatchResult result
-        (λ fault. ChecksUnder ⟦<Certificate as Grammar>⟧.refuses moment anchor.now (map (λ input. input.items) path.now) (Ok (option_map string_bytes fault)))
-        (λ e. (e.kind ≡ Memory) ⊎ ChecksUnder ⟦<Certificate as Grammar>⟧.refuses moment anchor.now (map (λ input. input.items) path.now) (Err e.kind)) }
+        (λ fault. ChecksUnder ⟦<Certificate as Grammar>⟧.refuses (accepting accepted) moment anchor.now (map (λ input. input.items) path.now)
+        (Ok (option_map string_bytes fault)))
+        (λ e. (e.kind ≡ Memory)
+        ⊎ ChecksUnder ⟦<Certificate as Grammar>⟧.refuses (accepting accepted) moment anchor.now (map (λ input. input.items) path.now) (Err e.kind)) }
 {
     let certificate = read_certificate(alloc, anchor)?;
-    first_fault_under(alloc, &certificate, path, moment)
+    first_fault_under(alloc, &certificate, path, moment, accepted)
 }
 
-#[tactic(auto, unfolding(crate::specs::Paths::ChecksEchoes))]
+#[tactic(auto, unfolding(crate::specs::Paths::ChecksAccepted))]
 impl PathCodec for Types {
-    ghost use Rattle.x509_types.specs.Paths.{ChecksEchoes};
+    ghost use Rattle.x509_types.specs.Paths.{ChecksAccepted};
 
-    ghost checks_path = { ChecksEchoes ⟦<Certificate as Grammar>⟧.refuses };
+    ghost checks_path = { ChecksAccepted ⟦<Certificate as Grammar>⟧.refuses };
 
     fn check_path(
         alloc: Global,
+        accepted: Signatures,
         moment: &str,
         anchor: &[u8],
         path: &[Vec<u8>],
     ) -> Result<Option<String>, Error> {
         let moment = DateTime::from_str(moment)?;
-        check_under(alloc, moment, anchor, path)
+        check_under(alloc, accepted, moment, anchor, path)
     }
 }

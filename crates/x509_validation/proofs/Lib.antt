@@ -19,3 +19,10 @@ pub mod Starts
 pub mod VerifiedApart
 pub mod Refusals
 pub mod AnchorLengths
+pub mod LeftPurposes
+pub mod Versions
+pub mod Allowed
+pub mod WorkingKeys
+pub mod Readables
+pub mod EmptyNames
+pub mod KeyAnswers

@@ -8,14 +8,16 @@ use Rattle.std.proofs.lemmas.Slice.Zip.{AllZip-long}
 use Rattle.x509_base.specs.CivilTime.{CivilTime}
 use Rattle.x509_ext.specs.declared.pkix.name_constraints.NameConstraints.{NameConstraints}
 use Rattle.x509_path.specs.Certificates.{Accepting, Certificate}
-use Rattle.x509_validation.specs.Inputs.{Inputs, LendsInputs}
+use Rattle.x509_der.specs.Any.{any}
+use Rattle.x509_validation.specs.Inputs.{Inputs, LendsInputs, SpellsOption, purposes_of, uses_of}
 use Rattle.x509_path.specs.Lent.{LendsAnchor}
 use Rattle.x509_path.specs.Path.{IsFirst, is_empty, subject_of}
-use Rattle.x509_validation.specs.Steps.{AreConstraintsOf, Carries, EndsUnder, Holds, Judges, Leaves, Stands, Starts, standing}
-use Rattle.x509_validation.specs.Validation.{Answers, AreOf, AreUnusable, Breaks, HasFault, IsFault, IsFirstFault, IsOver, IsUnder, Standing, faults_at, reasons}
+use Rattle.x509_validation.specs.Keys.{key_behind, parameters_of, working_key}
+use Rattle.x509_validation.specs.Steps.{AreConstraintsOf, AreLeft, Carries, EndsUnder, Holds, HoldsKey, Judges, Leaves, Stands, Starts, asked_before, left_at, standing}
+use Rattle.x509_validation.specs.Validation.{Answers, AnswersUnreadable, AreOf, AreParameters, AreUnusable, Breaks, HasFault, IsFault, IsFirstFault, IsOver, IsUnder, Standing, faults_at, reasons}
 use Rattle.x509_path.specs.declared.anchor.Anchor.{Anchor}
-use Rattle.x509_path.specs.declared.anchor_ref.AnchorRef.{AnchorRef}
-use Rattle.x509_validation.specs.declared.applied.Applied.{Applied}
+use Rattle.x509_validation.specs.declared.above.Above.{Above}
+use Rattle.x509_validation.specs.declared.asked.Asked.{Asked}
 use Rattle.x509_validation.specs.declared.settings.PathSettings.{PathSettings}
 use Rattle.x509_validation.specs.declared.trusted.Trusted.{Trusted}
 use Rattle.x509_validation.specs.declared.validation_fault.ValidationFault.{ValidationFault}
@@ -23,7 +25,9 @@ use Rattle.x509_validation.specs.declared.validation_fault.ValidationFault.TheVa
 use Rattle.x509_validation.specs.declared.validation_fault.ValidationReason.{ValidationReason}
 use Rattle.x509_validation.specs.declared.validation_fault.ValidationReason.TheVariants.{Decode, PathLen}
 use Rattle.x509_validation.proofs.AllowedNames.{collected}
+use Rattle.x509_validation.proofs.WorkingKeys.{one_behind}
 use Rattle.x509_validation.proofs.Others.{too_many}
+use Rattle.x509_validation.proofs.LeftPurposes.{at_first}
 use Rattle.x509_path.proofs.Along.{Reached, local, no_fault, reached_first, reached_next, zip_push}
 use Rattle.x509_path.proofs.Firsts.{first_along, wrong}
 use Rattle.x509_policy.specs.Values.{Policy}
@@ -34,6 +38,11 @@ use Rattle.x509_policy.specs.declared.state.PolicyState.{PolicyState}
 pub not_empty : (front : List (List ℕ)) (last : List ℕ) → front ++ last ∷ [] ≢ []
 not_empty [] last none = cc
 not_empty (x ∷ front) last none = cc
+
+-- what is answered to what can't be read
+pub unreadable : (front : List (List ℕ)) (last : List ℕ) → AnswersUnreadable (front ++ last ∷ []) (Err Initial)
+unreadable [] last = refl
+unreadable (x ∷ front) last = refl
 
 some_left : (front : List (List ℕ)) (last : List ℕ) → is_empty (front ++ last ∷ []) ≡ false
 some_left [] last = refl
@@ -74,7 +83,7 @@ none_left (x ∷ path) is = absurd (true≢false (sym is))
 
 module _ (accepts : Accepting) (inputs : Inputs) (path : List (List ℕ)) where
   -- what holds before the input at a place is judged: what is carried to it, and what is left of the path stands behind those before it
-  pub record Passed (i : ℕ) (moment : CivilTime) (lent : AnchorRef) (max_path_length : Option ℕ) (sets : Applied) (state : PolicyState) : Type 0 where
+  pub record Passed (i : ℕ) (moment : CivilTime) (lent : Above) (max_path_length : Option ℕ) (sets : Asked) (state : PolicyState) : Type 0 where
     pub above : Anchor
     pub before : List Certificate
     pub done : List (List ℕ)
@@ -88,9 +97,9 @@ module _ (accepts : Accepting) (inputs : Inputs) (path : List (List ℕ)) where
   begins : (limit : Option ℕ) → Leaves limit [] limit
   begins limit behind = ((λ h. h), (λ h. h))
 
-  pub starting : (trusted : Trusted) (settings : PathSettings) (sets : Applied) (state : PolicyState) → LendsInputs trusted settings inputs → Starts inputs (Ok sets) → Carries inputs (length path) [] state
-      → Passed 0 settings.moment trusted.anchor trusted.max_path_length sets state
-  starting trusted settings sets state lends starts carries = record {
+  pub starting : (trusted : Trusted) (settings : PathSettings) (lent : Above) (sets : Asked) (state : PolicyState) → LendsInputs trusted settings inputs → LendsAnchor lent.anchor inputs.trust.anchor
+      → HoldsKey lent inputs.trust.anchor.key → Starts inputs (Ok sets.names) → left_at sets ≡ purposes_of settings → sets.uses ≡ uses_of settings → Carries inputs (length path) [] state → Passed 0 settings.moment lent trusted.max_path_length sets state
+  starting trusted settings lent sets state lends anchor key starts left uses carries = record {
     above = inputs.trust.anchor;
     before = [];
     done = [];
@@ -101,15 +110,18 @@ module _ (accepts : Accepting) (inputs : Inputs) (path : List (List ℕ)) where
     stands = record {
       constraints = starts.0.0;
       at = lends.moment;
-      lends = lends.trust.anchor;
+      lends = anchor;
+      key = key;
       leaves = subst (λ m. Leaves inputs.trust.max_path_length [] m) lends.trust.max_path_length (begins inputs.trust.max_path_length);
       applied = starts.0.1;
       collects = starts.0.2;
+      uses = lends.uses ∙ sym uses;
+      purposes = at_first inputs.purposes inputs.uses.is_chained (left_at sets) (lends.purposes ∙ sym left);
     };
     reached = reached_first (faults_at accepts inputs) inputs.trust.anchor path;
   }
 
-  module _ (i : ℕ) (moment : CivilTime) (lent : AnchorRef) (max_path_length : Option ℕ) (sets : Applied) (state : PolicyState) (bytes : List ℕ) (is_last : Bool)
+  module _ (i : ℕ) (moment : CivilTime) (lent : Above) (max_path_length : Option ℕ) (sets : Asked) (state : PolicyState) (bytes : List ℕ) (is_last : Bool)
       (passed : Passed i moment lent max_path_length sets state) (input : slice_get path i ≡ Some bytes) (last : is_empty (drop (suc i) path) ≡ is_last) where
     within : i < length path
     within = slice_get_within path i bytes input
@@ -168,35 +180,49 @@ module _ (accepts : Accepting) (inputs : Inputs) (path : List (List ℕ)) where
       parts_here : path ≡ (passed.done ++ bytes ∷ []) ++ drop (suc i) path
       parts_here = split ∙ sym (append_assoc passed.done (bytes ∷ []) (drop (suc i) path))
 
+      whole_are : is_last ≡ true → AreOf (passed.before ++ c ∷ []) path
+      whole_are none = subst (AreOf (passed.before ++ c ∷ [])) (sym (parts_here ∙ ap (λ rest. (passed.done ++ bytes ∷ []) ++ rest) (none_left (drop (suc i) path) (last ∙ none)) ∙ append-nil (passed.done ++ bytes ∷ []))) are_here
+
       pub under : is_last ≡ true → (found : List Policy) → EndsUnder inputs (passed.before ++ c ∷ []) found → IsUnder inputs path found
       under none found ends = record {
         certificates = passed.before ++ c ∷ [];
         said = ends.said;
         settings = ends.settings;
-        are = subst (AreOf (passed.before ++ c ∷ [])) (sym (parts_here ∙ ap (λ rest. (passed.done ++ bytes ∷ []) ++ rest) (none_left (drop (suc i) path) (last ∙ none)) ∙ append-nil (passed.done ++ bytes ∷ []))) are_here;
+        are = whole_are none;
         say = ends.say;
         at_start = ends.at_start;
         outcome = ends.outcome;
       }
 
-      module _ (names : Option NameConstraints) (next_lent : AnchorRef) (next_length : Option ℕ) (next_sets : Applied) (next_state : PolicyState) where
-        next_stands : is_last ≡ false → AreConstraintsOf c names → LendsAnchor next_lent (subject_of c)
+      pub with_its_parameters : is_last ≡ true → (parameters : Option (Bor (List ℕ)))
+          → SpellsOption (λ l. l.now) any parameters (parameters_of (key_behind inputs.trust.anchor.key (passed.before ++ c ∷ []))) → AreParameters inputs path parameters
+      with_its_parameters none parameters lends = record { certificates = passed.before ++ c ∷ []; are = whole_are none; lends = lends }
+
+      module _ (names : Option NameConstraints) (next_lent : Above) (next_length : Option ℕ) (next_sets : Asked) (next_state : PolicyState) where
+        next_stands : is_last ≡ false → AreConstraintsOf c names → LendsAnchor next_lent.anchor (subject_of c)
+            → HoldsKey next_lent (working_key (key_behind inputs.trust.anchor.key passed.before) c.tbs_certificate.subject_public_key_info)
             → ((IsOver max_path_length (c ∷ []) → ⊥) → Leaves inputs.trust.max_path_length (passed.before ++ c ∷ []) next_length)
-            → Holds next_sets (passed.stands.constraints ++ option_to_list names) → Stands inputs (subject_of c) (passed.before ++ c ∷ []) moment next_lent next_length next_sets
-        next_stands early of_names lends leaves applied = record {
+            → Holds next_sets.names (passed.stands.constraints ++ option_to_list names) → next_sets.uses ≡ sets.uses
+            → AreLeft inputs.purposes (asked_before inputs.uses.is_chained (passed.before ++ c ∷ [])) (left_at next_sets) → Stands inputs (subject_of c) (passed.before ++ c ∷ []) moment next_lent next_length next_sets
+        next_stands early of_names lends key leaves applied uses left = record {
           constraints = passed.stands.constraints ++ option_to_list names;
           at = passed.stands.at;
           lends = lends;
+          key = subst (HoldsKey next_lent) (sym (one_behind inputs.trust.anchor.key passed.before c)) key;
           leaves = leaves (λ over. judged.1 PathLen (early, (too_many inputs.trust.max_path_length passed.before max_path_length c passed.stands.leaves).1 over));
           applied = applied;
           collects = collected inputs passed.before c passed.stands.constraints names passed.stands.collects of_names;
+          uses = passed.stands.uses ∙ sym uses;
+          purposes = left;
         }
 
-        pub further : is_last ≡ false → AreConstraintsOf c names → LendsAnchor next_lent (subject_of c)
+        pub further : is_last ≡ false → AreConstraintsOf c names → LendsAnchor next_lent.anchor (subject_of c)
+            → HoldsKey next_lent (working_key (key_behind inputs.trust.anchor.key passed.before) c.tbs_certificate.subject_public_key_info)
             → ((IsOver max_path_length (c ∷ []) → ⊥) → Leaves inputs.trust.max_path_length (passed.before ++ c ∷ []) next_length)
-            → Holds next_sets (passed.stands.constraints ++ option_to_list names) → Carries inputs (length path) (passed.before ++ c ∷ []) next_state
+            → Holds next_sets.names (passed.stands.constraints ++ option_to_list names) → next_sets.uses ≡ sets.uses
+            → AreLeft inputs.purposes (asked_before inputs.uses.is_chained (passed.before ++ c ∷ [])) (left_at next_sets) → Carries inputs (length path) (passed.before ++ c ∷ []) next_state
             → Passed (i + 1) moment next_lent next_length next_sets next_state
-        further early of_names lends leaves applied carries = record {
+        further early of_names lends key leaves applied uses left carries = record {
           above = subject_of c;
           before = passed.before ++ c ∷ [];
           done = passed.done ++ bytes ∷ [];
@@ -204,7 +230,7 @@ module _ (accepts : Accepting) (inputs : Inputs) (path : List (List ℕ)) where
           place = omega (arith, length-append passed.done (bytes ∷ []), passed.place);
           are = are_here;
           carries = carries;
-          stands = next_stands early of_names lends leaves applied;
+          stands = next_stands early of_names lends key leaves applied uses left;
           reached = reached;
         }
 

@@ -1,7 +1,11 @@
 -- What a look-up of the value of one extension says.
-use Rattle.std.proofs.Common.{◌≡◌, Bool, List, [], ◌∷◌, Option, Some, None, Ok, refl, sym, subst}
+use Rattle.std.proofs.Common.{◌≡◌, ◌≤◌, Bool, List, [], ◌∷◌, length, Option, Some, None, Ok, Err, ap, arith, refl, sym, subst}
+use Rattle.x509_check.specs.ExtensionRefs.{FindsLent, lent_extension}
+use Rattle.x509_check.specs.declared.lent.extension.ExtensionRef.{ExtensionRef}
 use Rattle.x509_der.specs.Form.{Form, Spells}
+use Rattle.x509_der.specs.declared.error.Error.{Error}
 use Rattle.x509_der.specs.declared.error.ErrorKind.{ErrorKind}
+use Rattle.x509_der.specs.declared.error.ErrorKind.TheVariants.{Failed}
 use Rattle.x509_ext.specs.LookUp.{Finds}
 use Rattle.x509_ext.specs.declared.extension.Extension.{Extension}
 
@@ -27,3 +31,20 @@ module _ {T : Type 0} (form : Form T) (refuses : ErrorKind → Type 0) (wants : 
   -- the value that is found is the one that is there
   pub same_value : (es : List Extension) (answer : Option (Bool × T)) (found : Bool × T) (value : T) → answer ≡ Some found → Finds form refuses wants es (Ok answer) → (e : Extension) → es ≡ e ∷ [] → Spells form value e.extn_value → found.1 ≡ value
   same_value es answer found value is h = only_value es found value (subst (λ a. Finds form refuses wants es (Ok a)) is h)
+
+-- ---- extensions that are lent
+
+pub found_one : (es : List Extension) (found : ExtensionRef) → FindsLent es (Ok (Some found)) → es ≡ lent_extension found ∷ []
+found_one [] found h = absurd (let e : Ok (Some found) ≡ Ok None = h in cc)
+found_one (e ∷ []) found h = ap (λ x. x ∷ []) (sym h)
+found_one (e ∷ f ∷ es) found h = absurd h
+
+pub found_none : (es : List Extension) → FindsLent es (Ok None) → es ≡ []
+found_none [] h = refl
+found_none (e ∷ []) h = absurd h
+found_none (e ∷ f ∷ es) h = absurd h
+
+pub found_many : (es : List Extension) (e : Error) → FindsLent es (Err e) → (2 ≤ length es) × (e.kind ≡ Failed)
+found_many [] e h = absurd (let k : Err e ≡ Ok None = h in cc)
+found_many (x ∷ []) e h = absurd h
+found_many (x ∷ y ∷ es) e h = (omega arith, h)

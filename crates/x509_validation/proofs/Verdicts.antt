@@ -23,4 +23,4 @@ knows_of bytes lent is_last c basic names lends same of_basic of_names = record 
 
 -- none of these reasons is one of policies
 pub all_own : All IsOwn own_reasons
-all_own = All-from_recursion IsOwn own_reasons (tt, (tt, (tt, (tt, (tt, (tt, (tt, (tt, (tt, (tt, (tt, (tt, tt))))))))))))
+all_own = All-from_recursion IsOwn own_reasons (tt, (tt, (tt, (tt, (tt, (tt, (tt, (tt, (tt, (tt, (tt, (tt, (tt, (tt, (tt, tt)))))))))))))))

@@ -3,6 +3,9 @@ pub mod Says
 pub mod Inputs
 pub mod Policies
 pub mod Trusts
+pub mod Keys
 pub mod Validation
 pub mod ValidationFault
 pub mod Steps
+pub mod Equality
+pub mod Details

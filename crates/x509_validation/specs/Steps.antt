@@ -1,27 +1,33 @@
 -- Tools of the proofs: what is carried from one certificate to the next while a path is validated, and what is said of one certificate.
 use Rattle.std.specs.List.{All}
 use Rattle.std.specs.Option.{option_map}
-use Rattle.std.specs.Prelude.{◌≡◌, ◌⊎◌, ◌↔◌, ℕ, Bool, false, List, [], ◌∷◌, ◌++◌, map, Option, Some, None, Contains, Result, Ok, Err, MatchResult}
+use Rattle.std.specs.Prelude.{◌≡◌, ◌⊎◌, ◌↔◌, ℕ, Bool, true, false, List, [], ◌∷◌, ◌++◌, map, Option, Some, None, Contains, Result, Ok, Err, MatchResult}
 use Rattle.x509_base.specs.CivilTime.{CivilTime}
+use Rattle.x509_base.specs.SubjectPublicKeyInfo.{subject_public_key_info}
+use Rattle.x509_base.specs.declared.subject_public_key_info.SubjectPublicKeyInfo.{SubjectPublicKeyInfo}
 use Rattle.x509_cert.specs.Certificate.{rfc5280_certificate}
 use Rattle.x509_check.specs.declared.lent.extension.ExtensionRef.{ExtensionRef}
 use Rattle.x509_constraints.specs.Applied.{AreApplied}
 use Rattle.x509_constraints.specs.Constraints.{IsUsable}
+use Rattle.x509_der.specs.Any.{any}
 use Rattle.x509_der.specs.Form.{Spells}
+use Rattle.x509_der.specs.declared.any.Any.{Any}
 use Rattle.x509_ext.specs.declared.extension.Extension.{Extension}
 use Rattle.x509_ext.specs.declared.pkix.basic_constraints.BasicConstraints.{BasicConstraints}
 use Rattle.x509_ext.specs.declared.pkix.name_constraints.NameConstraints.{NameConstraints}
 use Rattle.x509_path.specs.Certificates.{Accepting, Certificate, extensions_of}
-use Rattle.x509_validation.specs.Inputs.{Inputs}
+use Rattle.x509_validation.specs.Inputs.{Inputs, SpellsOption}
+use Rattle.x509_validation.specs.Keys.{given, key_behind, with_parameters}
 use Rattle.x509_path.specs.Lent.{Lends, LendsAnchor, lent_extensions}
 use Rattle.x509_validation.specs.Policies.{AreSettings, IsRefused}
 use Rattle.x509_validation.specs.Says.{Say, Says, any_policy_inhibit_of, explicit_policy_of, mapping_inhibit_of}
 use Rattle.x509_path.specs.Path.{IsFirst}
 use Rattle.x509_path.specs.PathLength as lengths
-use Rattle.x509_validation.specs.Validation.{Apply, AreSpelled, AreUnusable, Breaks, HasConstraints, IsFault, IsOver, IsTooLong, Standing, own_reasons, reasons}
+use Rattle.x509_validation.specs.Validation.{AllowsPurpose, Apply, AreSpelled, AreUnusable, Breaks, HasConstraints, IsFault, IsOver, IsTooLong, Standing, own_reasons, reasons}
 use Rattle.x509_path.specs.declared.anchor.Anchor.{Anchor}
-use Rattle.x509_path.specs.declared.anchor_ref.AnchorRef.{AnchorRef}
+use Rattle.x509_validation.specs.declared.above.Above.{Above}
 use Rattle.x509_validation.specs.declared.applied.Applied.{Applied}
+use Rattle.x509_validation.specs.declared.asked.Asked.{Asked}
 use Rattle.x509_validation.specs.declared.policies.Said.{Said}
 use Rattle.x509_validation.specs.declared.validation_fault.ValidationFault.{ValidationFault}
 use Rattle.x509_validation.specs.declared.validation_fault.ValidationFault.TheVariants.{Memory, Empty, Initial, At}
@@ -29,6 +35,7 @@ use Rattle.x509_validation.specs.declared.validation_fault.ValidationReason.{Val
 use Rattle.x509_validation.specs.declared.validation_fault.ValidationReason.TheVariants.{Decode, RepeatedPolicy, Policy, PolicyMapping}
 use Rattle.x509_validation.specs.declared.validator.Limits.{Limits}
 use Rattle.x509_policy.specs.Follows.{Follows, IsOutcome}
+use Rattle.x509_policy.specs.Levels.{In}
 use Rattle.x509_policy.specs.Path as refusals
 use Rattle.x509_policy.specs.Path.{Reason, Valid}
 use Rattle.x509_policy.specs.Values as policies
@@ -52,18 +59,49 @@ pub record Holds (held : Applied) (constraints : List NameConstraints) : Type 0 
   pub applied : AreApplied held.sets constraints
   pub none : held.is_any ≡ false → constraints ≡ []
 
+-- those that were asked for a purpose before
+abbrev pub asked_before : Bool → List Certificate → List Certificate
+asked_before true before = before
+asked_before false before = []
+
+-- of these purposes each is left that each of these certificates allows
+abbrev pub AreLeft : Option (List (List ℕ)) → List Certificate → Option (List (List ℕ)) → Type 0
+AreLeft purposes certificates None = purposes ≡ None
+AreLeft purposes certificates (Some left) =
+    (asked : List (List ℕ)) × (purposes ≡ Some asked) × ((p : List ℕ) → In p left ↔ (In p asked × All (λ c. AllowsPurpose p c) certificates))
+
+-- what is left at a certificate
+abbrev pub left_at : Asked → Option (List (List ℕ))
+left_at asked = option_map (λ left. octets_of left.items) asked.purposes
+
+-- and behind it
+abbrev pub left_behind : Limits → Option (List (List ℕ))
+left_behind limits = option_map (λ left. octets_of left.items) limits.purposes
+
 -- where a certificate stands
 abbrev pub standing : Anchor → List Certificate → Bool → ℕ → Standing
 standing above before is_last n = record { above = above; before = before; is_last = is_last; n = n }
 
+-- the key is lent, and the parameters that it has from one above it
+pub record HoldsKey (lent : Above) (key : SubjectPublicKeyInfo) : Type 0 where
+  pub own : SubjectPublicKeyInfo
+  pub inherited : Option Any
+  pub spells : Spells subject_public_key_info own lent.anchor.key.now
+  pub lends : SpellsOption (λ octets. octets.now) any lent.inherited inherited
+  pub are_given : given inherited ≡ inherited
+  pub is : key ≡ with_parameters own inherited
+
 -- what is known there: at that moment, under that name and key, with that many to follow, where those sets apply
-pub record Stands (inputs : Inputs) (above : Anchor) (before : List Certificate) (moment : CivilTime) (lent : AnchorRef) (max_path_length : Option ℕ) (sets : Applied) : Type 0 where
+pub record Stands (inputs : Inputs) (above : Anchor) (before : List Certificate) (moment : CivilTime) (lent : Above) (max_path_length : Option ℕ) (sets : Asked) : Type 0 where
   pub constraints : List NameConstraints
   pub at : inputs.moment ≡ moment
-  pub lends : LendsAnchor lent above
+  pub lends : LendsAnchor lent.anchor above
+  pub key : HoldsKey lent (key_behind inputs.trust.anchor.key before)
   pub leaves : Leaves inputs.trust.max_path_length before max_path_length
-  pub applied : Holds sets constraints
+  pub applied : Holds sets.names constraints
   pub collects : Collects inputs before constraints
+  pub uses : inputs.uses ≡ sets.uses
+  pub purposes : AreLeft inputs.purposes (asked_before inputs.uses.is_chained before) (left_at sets)
 
 -- the constraints are those of the certificate, and absent where it has none that can be read
 abbrev pub AreConstraintsOf : Certificate → Option NameConstraints → Type 0
@@ -143,10 +181,15 @@ reason_for refusals.RepeatedPolicy = RepeatedPolicy
 reason_for refusals.NoPolicy = Policy
 reason_for refusals.MapsAnyPolicy = PolicyMapping
 
+-- they are what is known behind the certificate, behind the others
+pub record IsBehind (inputs : Inputs) (before : List Certificate) (c : Certificate) (limits : Limits) : Type 0 where
+  pub of_limits : IsLimitOf c limits.basic_constraints limits.name_constraints
+  pub of_purposes : AreLeft inputs.purposes (asked_before inputs.uses.is_chained (before ++ c ∷ [])) (left_behind limits)
+
 -- what is answered of the certificate that stands there, its policies apart, and what it says of those below it
 abbrev pub JudgesParts : Accepting → Inputs → Standing → List ℕ → ℕ → Certificate → Result Limits ValidationFault → Type 0
 JudgesParts accepts inputs standing bytes place c answer =
-    MatchResult answer (λ limits. (standing.is_last ≡ false → IsLimitOf c limits.basic_constraints limits.name_constraints)
+    MatchResult answer (λ limits. (standing.is_last ≡ false → IsBehind inputs standing.before c limits)
     × (Says c (said_by limits.policies) × JudgesAlone accepts inputs standing bytes place (Ok c)))
     (λ e. JudgesAlone accepts inputs standing bytes place (Err e))
 

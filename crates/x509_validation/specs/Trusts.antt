@@ -1,7 +1,8 @@
--- What is trusted of a certificate, and of a trust anchor (RFC 5937 2 and 3.2, RFC 5914 2.5).
+-- What is trusted of a certificate, and of a trust anchor (RFC 5937 2 and 3.2, RFC 5914 2.5 and 2.6).
 use Rattle.std.specs.Borrow.{Bor}
 use Rattle.std.specs.Int.RustNames.{bit_and}
-use Rattle.std.specs.Prelude.{◌≡◌, ◌==◌, ◌<◌, ◌≤◌, ◌^◌, ◌⊎◌, ℕ, Bool, false, List, [], ◌∷◌, length, Option, Some, None, is_some, option_map}
+use Rattle.std.specs.List.{All}
+use Rattle.std.specs.Prelude.{◌≡◌, ◌≢◌, ◌==◌, ◌<◌, ◌≤◌, ◌^◌, ◌⊎◌, ℕ, Bool, false, List, [], ◌∷◌, length, Option, Some, None, is_some, option_map}
 use Rattle.x509_base.specs.Checked.{CheckRefuses}
 use Rattle.x509_base.specs.Profiles.{rfc5280_serial_number}
 use Rattle.x509_base.specs.declared.profile.Rfc5280.{Rfc5280}
@@ -81,8 +82,9 @@ pub record AreLimits (extensions : List Extension) (limits : Limits) : Type 0 wh
 abbrev pub limits_of : Trust → Limits
 limits_of trust = record { constraints = trust.constraints; max_path_length = trust.max_path_length; policies = trust.policies; flags = trust.flags }
 
--- a certificate is trusted: its subject and its key, for the paths that its extensions allow
+-- a certificate is trusted: its subject, which isn't empty (RFC 5937 3.2), and its key, for the paths that its extensions allow
 pub record IsTrustOf (signed : TbsCertificateInner Rfc5280) (trust : Trust) : Type 0 where
+  pub named : signed.subject ≢ []
   pub anchor : trust.anchor ≡ record { name = signed.subject; key = signed.subject_public_key_info }
   pub limits : AreLimits (members signed.extensions) (limits_of trust)
 
@@ -133,12 +135,23 @@ limits_under controls limits = record {
   flags = flags_or controls.policy_flags limits.flags;
 }
 
--- a description is trusted: under the name of its controls, with its key, for the paths that its controls allow; limits that these don't have are
--- those of the certificate in them, which has to be of this anchor
+-- the identifier of a BasicConstraints, NameConstraints, CertificatePolicies, PolicyConstraints or InhibitAnyPolicy, which limit paths
+abbrev pub LimitsPaths : List ℕ → Type 0
+LimitsPaths oid = (oid ≡ id_ce 19) ⊎ ((oid ≡ id_ce 30) ⊎ ((oid ≡ id_ce 32) ⊎ ((oid ≡ id_ce 36) ⊎ (oid ≡ id_ce 54))))
+
+-- neither critical nor of a type that limits paths
+abbrev pub MayBeLeft : Extension → Type 0
+MayBeLeft e = (e.critical ≡ false) × (LimitsPaths e.extn_id → ⊥)
+
+-- A description is trusted: under the name of its controls, which isn't empty, with its key, for the paths that its controls allow; limits that these
+-- don't have are those of the certificate in them, which has to be of this anchor. The extensions beside the controls aren't followed (RFC 5914 2.6),
+-- so each is to be one that may be left.
 pub record IsTrustOfInfo (info : TrustAnchorInfo Rfc5280) (trust : Trust) : Type 0 where
   pub controls : CertPathControls Rfc5280
   pub own : Limits
   pub has_controls : info.cert_path ≡ Some controls
+  pub named : controls.ta_name ≢ []
+  pub others : All (λ e. MayBeLeft e) (members info.extensions)
   pub certificate : HasItsCertificate info controls controls.certificate
   pub are_own : AreOwnLimits controls.certificate own
   pub anchor : trust.anchor ≡ record { name = controls.ta_name; key = info.pub_key }
@@ -186,15 +199,27 @@ RefusesValue form oid extensions e =
     ((2 ≤ length (with_oid oid extensions)) × (e ≡ Failed))
     ⊎ ((x : Extension) × (with_oid oid extensions ≡ x ∷ []) × IsRefused form (λ k. ⊥) x.extn_value e)
 
--- one of the two extensions that set flags gives no value
-abbrev pub RefusesFlags : List Extension → ErrorKind → Type 0
-RefusesFlags extensions e = RefusesValue policy_constraints (id_ce 36) extensions e ⊎ RefusesValue inhibit_any_policy (id_ce 54) extensions e
+-- the one extension with the identifier gives a value, or there is none
+abbrev pub GivesValue : {X : Type 0} → Form X → List ℕ → List Extension → Type 0
+GivesValue {X} form oid extensions = (found : Option X) × IsValueOf form oid extensions found
 
--- one of the five extensions that limit paths gives no value
+-- one of the two extensions that set flags gives no value, and it is the first of them, in this order
+abbrev pub RefusesFlags : List Extension → ErrorKind → Type 0
+RefusesFlags extensions e =
+    RefusesValue policy_constraints (id_ce 36) extensions e
+    ⊎ (GivesValue policy_constraints (id_ce 36) extensions × RefusesValue inhibit_any_policy (id_ce 54) extensions e)
+
+-- so of the five that limit paths
 abbrev pub RefusesLimits : List Extension → ErrorKind → Type 0
 RefusesLimits extensions e =
     RefusesValue name_constraints (id_ce 30) extensions e
-    ⊎ (RefusesValue basic_constraints (id_ce 19) extensions e ⊎ (RefusesValue certificate_policies (id_ce 32) extensions e ⊎ RefusesFlags extensions e))
+    ⊎ (GivesValue name_constraints (id_ce 30) extensions × (RefusesValue basic_constraints (id_ce 19) extensions e
+    ⊎ (GivesValue basic_constraints (id_ce 19) extensions × (RefusesValue certificate_policies (id_ce 32) extensions e
+    ⊎ (GivesValue certificate_policies (id_ce 32) extensions × RefusesFlags extensions e)))))
+
+-- a certificate has no name; else what its extensions say is refused
+abbrev pub RefusesSigned : TbsCertificateInner Rfc5280 → ErrorKind → Type 0
+RefusesSigned signed e = ((e ≡ Failed) × (signed.subject ≡ [])) ⊎ ((signed.subject ≢ []) × RefusesLimits (members signed.extensions) e)
 
 -- the certificate in a description is of another anchor, or one of its extensions gives no value
 abbrev pub RefusesItsCertificate : TrustAnchorInfo Rfc5280 → CertPathControls Rfc5280 → Option Certificate → ErrorKind → Type 0
@@ -203,16 +228,17 @@ RefusesItsCertificate info controls (Some c) e =
     ((e ≡ Failed) × (IsCertificateOf info controls.ta_name c.tbs_certificate → ⊥))
     ⊎ (RefusesValue subject_key_identifier (id_ce 14) (extensions_of c) e ⊎ RefusesLimits (extensions_of c) e)
 
--- so of a description, or it has no name
+-- so of a description; or it has no name, or an empty one, or an extension that may not be left
 abbrev pub RefusesInfo : TrustAnchorInfo Rfc5280 → ErrorKind → Type 0
 RefusesInfo info e =
-    ((e ≡ Failed) × (info.cert_path ≡ None))
+    ((e ≡ Failed) × ((controls : CertPathControls Rfc5280) → info.cert_path ≡ Some controls
+    → (controls.ta_name ≡ []) ⊎ (All (λ x. MayBeLeft x) (members info.extensions) → ⊥)))
     ⊎ ((controls : CertPathControls Rfc5280) × (info.cert_path ≡ Some controls) × RefusesItsCertificate info controls controls.certificate e)
 
 -- why nothing is trusted of an anchor
 abbrev pub RefusesAnchor : TrustAnchorChoice Rfc5280 → ErrorKind → Type 0
-RefusesAnchor (Whole c) e = RefusesLimits (extensions_of c) e
-RefusesAnchor (TbsCertificate signed) e = RefusesLimits (members signed.extensions) e
+RefusesAnchor (Whole c) e = RefusesSigned c.tbs_certificate e
+RefusesAnchor (TbsCertificate signed) e = RefusesSigned signed e
 RefusesAnchor (TaInfo info) e = RefusesInfo info e
 
 -- Why nothing is made of what is trusted: out of memory; or nothing is trusted, and refuses says why; or a part of what is trusted is too long, as

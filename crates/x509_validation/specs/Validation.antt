@@ -1,9 +1,13 @@
 -- Validation of paths, topmost certificate first (RFC 5280 6.1): which fault stands at which place, and what is answered. Names are compared
 -- as they match (7.1), name constraints hold, and policies are followed.
-use Rattle.std.specs.Prelude.{◌≡◌, ◌≢◌, ◌<◌, ◌+◌, ◌⊎◌, ◌↔◌, ℕ, zero, suc, length, Bool, true, false, List, [], ◌∷◌, ◌++◌, Option, Some, None, Contains, Result, Ok, Err}
+use Rattle.std.specs.Borrow.{Bor}
+use Rattle.std.specs.Prelude.{◌≡◌, ◌≢◌, ◌<◌, ◌==◌, ◌+◌, ◌⊎◌, ◌↔◌, ℕ, zero, suc, length, Bool, true, false, List, [], ◌∷◌, ◌++◌, Option, Some, None, Contains, Result, Ok, Err}
 use Rattle.std.specs.List.{All, AllZip}
+use Rattle.std.specs.Int.RustNames.{bit_and}
 use Rattle.x509_cert.specs.Certificate.{rfc5280_certificate}
+use Rattle.x509_cert.specs.declared.certificate.version.Version.TheVariants.{V1, V3}
 use Rattle.x509_constraints.specs.Constraints.{IsAllowedBy, IsUsable, names_asked}
+use Rattle.x509_der.specs.Any.{any}
 use Rattle.x509_der.specs.Form.{Form, Spells}
 use Rattle.x509_ext.specs.AlternativeNames.{subject_alt_name}
 use Rattle.x509_ext.specs.BasicConstraints.{basic_constraints}
@@ -18,11 +22,14 @@ use Rattle.x509_ext.specs.PolicyConstraints.{policy_constraints}
 use Rattle.x509_ext.specs.PolicyMapping.{policy_mappings}
 use Rattle.x509_ext.specs.declared.extension.Extension.{Extension}
 use Rattle.x509_ext.specs.declared.pkix.alternative_names.SubjectAltName.{SubjectAltName}
+use Rattle.x509_ext.specs.declared.pkix.extended_key_usage.ExtendedKeyUsage.{ExtendedKeyUsage}
+use Rattle.x509_ext.specs.declared.pkix.key_usage.KeyUsage as usages
 use Rattle.x509_ext.specs.declared.pkix.name_constraints.NameConstraints.{NameConstraints}
 use Rattle.x509_match.specs.Matching.{NamesMatch}
 use Rattle.x509_path.specs.Certificates as certificates
-use Rattle.x509_path.specs.Certificates.{Accepting, Certificate, HasPathLen, HasPayload, IsReadable, extensions_of}
-use Rattle.x509_validation.specs.Inputs.{Inputs}
+use Rattle.x509_path.specs.Certificates.{Accepting, Certificate, HasPathLen, HasPayload, extensions_of}
+use Rattle.x509_validation.specs.Inputs.{Inputs, SpellsOption}
+use Rattle.x509_validation.specs.Keys.{key_behind, parameters_of}
 use Rattle.x509_path.specs.Lent.{LendsAnchor}
 use Rattle.x509_path.specs.Path.{Faults, HasFaultBehind, IsFaultBy, IsFirst, is_empty, subject_of}
 use Rattle.x509_validation.specs.Policies.{AreRefused, AreSettings}
@@ -32,8 +39,9 @@ use Rattle.x509_validation.specs.declared.validated.Validated.{Validated}
 use Rattle.x509_validation.specs.declared.validation_fault.ValidationFault.{ValidationFault}
 use Rattle.x509_validation.specs.declared.validation_fault.ValidationFault.TheVariants.{Memory, Empty, Initial, At}
 use Rattle.x509_validation.specs.declared.validation_fault.ValidationReason.{ValidationReason}
-use Rattle.x509_validation.specs.declared.validation_fault.ValidationReason.TheVariants.{Decode, Algorithm, Issuer, Moment, Signature, Repeated, Critical, Extension as Undecodable, NotCa, KeyUsage, PathLen, Names, Constraints, RepeatedPolicy, Policy as NoPolicy, PolicyMapping as MapsAnyPolicy}
+use Rattle.x509_validation.specs.declared.validation_fault.ValidationReason.TheVariants.{Decode, Algorithm, Issuer, Moment, Signature, Repeated, Critical, Extension as Undecodable, NotCa, KeyUsage, PathLen, Names, Constraints, RepeatedPolicy, Policy as NoPolicy, PolicyMapping as MapsAnyPolicy, Version as OtherVersion, Usage as OtherUsage, Purpose as OtherPurpose}
 use Rattle.x509_policy.specs.Follows.{IsOutcome}
+use Rattle.x509_policy.specs.Levels.{In}
 use Rattle.x509_policy.specs.Path as refusals
 use Rattle.x509_policy.specs.Path.{Valid}
 use Rattle.x509_policy.specs.Values as policies
@@ -42,22 +50,21 @@ use Rattle.x509_policy.specs.Views.{octets_of}
 
 -- ---- extensions (RFC 5280 4.2)
 
--- it is a NameConstraints that can be read, or one of those of Certificates.antt
-abbrev pub IsOfUse : Extension → Type 0
-IsOfUse e = certificates.IsKnown e ⊎ IsReadable name_constraints (id_ce 30) e
+-- BasicConstraints, KeyUsage, SubjectAltName or NameConstraints; ExtendedKeyUsage where a purpose is asked for
+abbrev pub IsOfUse : Bool → Extension → Type 0
+IsOfUse asks_purpose e =
+    (e.extn_id ≡ id_ce 19) ⊎ ((e.extn_id ≡ id_ce 15) ⊎ ((e.extn_id ≡ id_ce 17) ⊎ ((e.extn_id ≡ id_ce 30) ⊎ ((asks_purpose ≡ true) × (e.extn_id ≡ id_ce 37)))))
 
--- it is one about policies that can be read
+-- CertificatePolicies, PolicyMappings, PolicyConstraints or InhibitAnyPolicy
 abbrev pub IsAboutPolicies : Extension → Type 0
-IsAboutPolicies e =
-    IsReadable certificate_policies (id_ce 32) e ⊎ (IsReadable policy_mappings (id_ce 33) e
-    ⊎ (IsReadable policy_constraints (id_ce 36) e ⊎ IsReadable inhibit_any_policy (id_ce 54) e))
+IsAboutPolicies e = (e.extn_id ≡ id_ce 32) ⊎ ((e.extn_id ≡ id_ce 33) ⊎ ((e.extn_id ≡ id_ce 36) ⊎ (e.extn_id ≡ id_ce 54)))
 
-abbrev pub IsProcessed : Extension → Type 0
-IsProcessed e = IsOfUse e ⊎ IsAboutPolicies e
+abbrev pub IsProcessed : Bool → Extension → Type 0
+IsProcessed asks_purpose e = IsOfUse asks_purpose e ⊎ IsAboutPolicies e
 
 -- each critical extension is processed (6.1.4 (o), 6.1.5 (f))
-abbrev pub AreProcessed : List Extension → Type 0
-AreProcessed extensions = All (λ e. e.critical ≡ true → IsProcessed e) extensions
+abbrev pub AreProcessed : Bool → List Extension → Type 0
+AreProcessed asks_purpose extensions = All (λ e. e.critical ≡ true → IsProcessed asks_purpose e) extensions
 
 -- if it has the identifier, its octets spell a value
 abbrev pub IsSpelled : {T : Type 0} → Form T → List ℕ → Extension → Type 0
@@ -138,6 +145,49 @@ IsAsked is_last c = (is_last ≡ true) ⊎ (IsSelfIssued c → ⊥)
 abbrev pub HasUnusable : Certificate → Type 0
 HasUnusable c = (constraints : NameConstraints) × HasConstraints c constraints × (IsUsable constraints → ⊥)
 
+-- ---- what a certificate is for
+
+-- anyExtendedKeyUsage, 2.5.29.37.0 (4.2.1.12)
+abbrev pub any_purpose : List ℕ
+any_purpose = id_ce 37 ++ 0 ∷ []
+
+-- its extended key usage, if it has one, names the purpose or any (4.2.1.12)
+abbrev pub AllowsPurpose : List ℕ → Certificate → Type 0
+AllowsPurpose purpose c =
+    (usage : ExtendedKeyUsage) → HasPayload extended_key_usage (id_ce 37) (extensions_of c) usage → In purpose usage.0 ⊎ In any_purpose usage.0
+
+-- those that are asked for a purpose at a certificate behind others: where they are chained all of them, else the last one alone
+abbrev pub asked_at : Bool → Bool → List Certificate → Certificate → List Certificate
+asked_at true is_last before c = before ++ c ∷ []
+asked_at false true before c = c ∷ []
+asked_at false false before c = []
+
+-- purposes are asked for, and none of them is allowed by each of these certificates
+abbrev pub LackPurpose : Option (List (List ℕ)) → List Certificate → Type 0
+LackPurpose None certificates = ⊥
+LackPurpose (Some purposes) certificates = (purpose : List ℕ) → In purpose purposes → All (λ c. AllowsPurpose purpose c) certificates → ⊥
+
+abbrev pub asks_purpose : Option (List (List ℕ)) → Bool
+asks_purpose None = false
+asks_purpose (Some purposes) = true
+
+-- it has all bits of the other (4.2.1.3)
+abbrev pub has_all : usages.KeyUsage → usages.KeyUsage → Bool
+has_all usage asked = bit_and usage.0.0 asked.0.0 == asked.0.0
+
+-- there is a KeyUsage without all of these bits
+abbrev pub LacksUsage : usages.KeyUsage → List Extension → Type 0
+LacksUsage asked extensions = (usage : usages.KeyUsage) × HasPayload key_usage (id_ce 15) extensions usage × (has_all usage asked ≡ false)
+
+-- extensions in another version than 3 (4.1.2.9)
+abbrev pub HasOtherVersion : Certificate → Type 0
+HasOtherVersion c = (extensions_of c ≢ []) × (c.tbs_certificate.version ≢ V3)
+
+-- one of version 3 by its BasicConstraints; one of version 1 where these are allowed (6.1.4 (k))
+abbrev pub IsAuthority : Bool → Certificate → Type 0
+IsAuthority allows_version_1 c =
+    ((c.tbs_certificate.version ≡ V3) × certificates.IsCa (extensions_of c)) ⊎ ((allows_version_1 ≡ true) × (c.tbs_certificate.version ≡ V1))
+
 -- ---- one certificate
 
 -- where a certificate stands: under which name and key, behind which certificates of the path, whether as the last, and in a path of how many
@@ -157,13 +207,13 @@ Breaks accepts inputs standing bytes c Issuer = NamesMatch c.tbs_certificate.iss
 -- 6.1.3 (a) (2)
 Breaks accepts inputs standing bytes c Moment = certificates.IsOutside inputs.moment c.tbs_certificate.validity
 -- 6.1.3 (a) (1)
-Breaks accepts inputs standing bytes c Signature = certificates.IsSigned accepts standing.above.key bytes c → ⊥
+Breaks accepts inputs standing bytes c Signature = certificates.IsSigned accepts (key_behind inputs.trust.anchor.key standing.before) bytes c → ⊥
 Breaks accepts inputs standing bytes c Repeated = IsRepeated (extensions_of c)
 -- 6.1.4 (o), 6.1.5 (f)
-Breaks accepts inputs standing bytes c Critical = AreProcessed (extensions_of c) → ⊥
+Breaks accepts inputs standing bytes c Critical = AreProcessed (asks_purpose inputs.purposes) (extensions_of c) → ⊥
 Breaks accepts inputs standing bytes c Undecodable = AreSpelled (extensions_of c) → ⊥
 -- 6.1.4 (k)
-Breaks accepts inputs standing bytes c NotCa = (standing.is_last ≡ false) × (certificates.IsCa (extensions_of c) → ⊥)
+Breaks accepts inputs standing bytes c NotCa = (standing.is_last ≡ false) × (IsAuthority inputs.uses.allows_version_1 c → ⊥)
 -- 6.1.4 (n)
 Breaks accepts inputs standing bytes c KeyUsage = (standing.is_last ≡ false) × certificates.LacksKeyCertSign (extensions_of c)
 -- 6.1.4 (l), (m)
@@ -173,6 +223,12 @@ Breaks accepts inputs standing bytes c PathLen =
 Breaks accepts inputs standing bytes c Names = IsAsked standing.is_last c × (AreNamesAllowed inputs standing.before c → ⊥)
 -- 6.1.4 (g)
 Breaks accepts inputs standing bytes c Constraints = (standing.is_last ≡ false) × HasUnusable c
+-- 4.1.2.9
+Breaks accepts inputs standing bytes c OtherVersion = HasOtherVersion c
+-- 4.2.1.3
+Breaks accepts inputs standing bytes c OtherUsage = (standing.is_last ≡ true) × LacksUsage inputs.uses.key_usage (extensions_of c)
+-- 4.2.1.12
+Breaks accepts inputs standing bytes c OtherPurpose = LackPurpose inputs.purposes (asked_at inputs.uses.is_chained standing.is_last standing.before c)
 -- 4.2.1.4
 Breaks accepts inputs standing bytes c RepeatedPolicy = AreRefused inputs standing.n standing.before c refusals.RepeatedPolicy
 -- 6.1.3 (d), (e), (f), 6.1.4 (b), (h), (i), (j), 6.1.5 (a), (b), (g)
@@ -207,7 +263,9 @@ pub record PathIsValid (accepts : Accepting) (inputs : Inputs) (path : List (Lis
 
 -- the order in which faults of one certificate are told, behind Decode; last those of policies
 abbrev pub own_reasons : List ValidationReason
-own_reasons = Algorithm ∷ Issuer ∷ Moment ∷ Signature ∷ Repeated ∷ Critical ∷ Undecodable ∷ NotCa ∷ KeyUsage ∷ PathLen ∷ Names ∷ Constraints ∷ []
+own_reasons =
+    Algorithm ∷ Issuer ∷ Moment ∷ Signature ∷ OtherVersion ∷ Repeated ∷ Undecodable ∷ Critical ∷ NotCa ∷ KeyUsage ∷ PathLen ∷ OtherUsage ∷ OtherPurpose
+    ∷ Names ∷ Constraints ∷ []
 
 abbrev pub reasons : List ValidationReason
 reasons = own_reasons ++ RepeatedPolicy ∷ NoPolicy ∷ MapsAnyPolicy ∷ []
@@ -240,10 +298,26 @@ pub record IsUnder (inputs : Inputs) (path : List (List ℕ)) (found : List Poli
   pub at_start : AreSettings inputs settings
   pub outcome : IsOutcome settings said (Valid found)
 
+-- the parameters are those of the key that is used behind the certificates (6.1.6)
+pub record AreParameters (inputs : Inputs) (path : List (List ℕ)) (parameters : Option (Bor (List ℕ))) : Type 0 where
+  pub certificates : List Certificate
+  pub are : AreOf certificates path
+  pub lends : SpellsOption (λ lent. lent.now) any parameters (parameters_of (key_behind inputs.trust.anchor.key certificates))
+
+-- what a valid path gives
+abbrev pub Gives : Inputs → List (List ℕ) → Validated → Type 0
+Gives inputs path validated =
+    IsOfLast validated path × (IsUnder inputs path (octets_of validated.policies.items) × AreParameters inputs path validated.parameters)
+
 -- What is answered to a path. Memory may be refused wherever there is an input.
 abbrev pub Answers : Accepting → Inputs → List (List ℕ) → Result Validated ValidationFault → Type 0
-Answers accepts inputs path (Ok validated) = PathIsValid accepts inputs path × (IsOfLast validated path × IsUnder inputs path (octets_of validated.policies.items))
+Answers accepts inputs path (Ok validated) = PathIsValid accepts inputs path × Gives inputs path validated
 Answers accepts inputs path (Err Memory) = path ≢ []
 Answers accepts inputs path (Err Empty) = path ≡ []
 Answers accepts inputs path (Err Initial) = (path ≢ []) × AreUnusable inputs
 Answers accepts inputs path (Err (At place reason)) = (AreUnusable inputs → ⊥) × IsFirstFault accepts inputs path place reason
+
+-- The same where nothing is lent that can be read: of a path that isn't empty it is Initial, and nothing else.
+abbrev pub AnswersUnreadable : List (List ℕ) → Result Validated ValidationFault → Type 0
+AnswersUnreadable [] result = result ≡ Err Empty
+AnswersUnreadable (input ∷ inputs) result = result ≡ Err Initial

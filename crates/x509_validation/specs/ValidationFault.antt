@@ -4,7 +4,7 @@ use Rattle.std.specs.Fmt.{decimal}
 use Rattle.x509_validation.specs.declared.validation_fault.ValidationFault.{ValidationFault}
 use Rattle.x509_validation.specs.declared.validation_fault.ValidationFault.TheVariants.{Memory, Empty, Initial, At}
 use Rattle.x509_validation.specs.declared.validation_fault.ValidationReason.{ValidationReason}
-use Rattle.x509_validation.specs.declared.validation_fault.ValidationReason.TheVariants.{Decode, Algorithm, Issuer, Moment, Signature, Repeated, Critical, Extension, NotCa, KeyUsage, PathLen, Names, Constraints, RepeatedPolicy, Policy, PolicyMapping}
+use Rattle.x509_validation.specs.declared.validation_fault.ValidationReason.TheVariants.{Decode, Algorithm, Issuer, Moment, Signature, Repeated, Critical, Extension, NotCa, KeyUsage, PathLen, Names, Constraints, RepeatedPolicy, Policy, PolicyMapping, Version, Usage, Purpose}
 
 -- the variant's name
 abbrev pub reason_text : ValidationReason → List ℕ
@@ -24,6 +24,9 @@ reason_text Constraints = codes "Constraints"
 reason_text RepeatedPolicy = codes "RepeatedPolicy"
 reason_text Policy = codes "Policy"
 reason_text PolicyMapping = codes "PolicyMapping"
+reason_text Version = codes "Version"
+reason_text Usage = codes "Usage"
+reason_text Purpose = codes "Purpose"
 
 -- the variant's name, or the place, a space and the reason
 abbrev pub fault_text : ValidationFault → List ℕ

@@ -1,6 +1,6 @@
 //! What holds of all paths that are validated. Each law is a function with an empty body, whose contract is the law.
 
-ghost use Rattle.std.specs.Prelude.{◌≡◌, ◌⊎◌, ◌↔◌, IsOk, List, ℕ, Result, Err};
+ghost use Rattle.std.specs.Prelude.{◌≡◌, ◌⊎◌, ◌↔◌, IsOk, List, ℕ, Result, Err, true};
 ghost use Rattle.x509_path.specs.Certificates.{Accepting, accept_all};
 ghost use Rattle.x509_validation.specs.Inputs.{Inputs};
 ghost use Rattle.x509_validation.specs.Validation as validation;
@@ -10,7 +10,9 @@ ghost use Rattle.x509_validation.specs.declared.validation_fault.ValidationFault
 ghost use Rattle.x509_validation.specs.declared.validation_fault.ValidationFault.TheVariants as validation_faults;
 ghost use Rattle.x509_validation.specs.declared.validation_fault.ValidationReason.{ValidationReason};
 ghost use Rattle.x509_validation.specs.declared.validation_fault.ValidationReason.TheVariants as validation_reasons;
+ghost use Rattle.x509_policy.specs.declared.anchor.AnchorFlags.{AnchorFlags};
 
+use crate::{AnchorFlags, ValidationFault, ValidationReason};
 use x509_base::Rfc5280;
 use x509_cert::laws::signed_bytes_spell_the_signed_part;
 
@@ -33,3 +35,11 @@ pub fn signatures_of_validated_paths_may_be_verified_apart()
 {
     signed_bytes_spell_the_signed_part::<Rfc5280>();
 }
+
+/// `==` of faults of validation, of their reasons and of the flags of anchors holds exactly of equal values.
+#[tactic(auto, using(crate::specs::Equality::exact_fault, crate::specs::Equality::exact_reason, crate::specs::Equality::exact_flags))]
+pub fn equality_of_faults_and_flags_is_exact()
+    ensures faults { (a b : ValidationFault) → (⟦<ValidationFault as PartialEq>⟧.eq a b ≡ true) ↔ (a ≡ b) }
+    ensures reasons { (a b : ValidationReason) → (⟦<ValidationReason as PartialEq>⟧.eq a b ≡ true) ↔ (a ≡ b) }
+    ensures flags { (a b : AnchorFlags) → (⟦<AnchorFlags as PartialEq>⟧.eq a b ≡ true) ↔ (a ≡ b) }
+{}

@@ -6,14 +6,20 @@
 //! in `docs/MAP.md`.
 #![tactic(auto)]
 
+mod above;
 mod applied;
+mod asked;
+mod details;
 mod initial;
+mod keys;
 pub mod laws;
 mod limits;
 mod matching;
 mod oids;
 mod policies;
 mod processed;
+mod purposes;
+mod readable;
 mod settings;
 mod signatures;
 mod trusted;
@@ -23,6 +29,8 @@ mod validated;
 mod validation_fault;
 mod validator;
 
+pub use details::{OutOfDate, fault_extension, out_of_date};
+pub use keys::working_key;
 pub use settings::PathSettings;
 pub use trusted::Trusted;
 pub use trusted_buf::TrustedBuf;

@@ -1,12 +1,13 @@
 //! The extensions that are looked at where a path is validated.
 
-ghost use Rattle.std.specs.Prelude.{◌≡◌, ◌↔◌, IfOk, IsTrue, Some, Option};
+ghost use Rattle.std.specs.Prelude.{◌≡◌, ◌↔◌, IfOk, IsTrue, Some, Option, true};
 ghost use Rattle.std.specs.List.{All};
 ghost use Rattle.x509_check.specs.ExtensionRefs.{lent_extension};
 ghost use Rattle.x509_path.specs.Certificates as certificates;
 ghost use Rattle.x509_path.specs.Lent.{lent_extensions};
-ghost use Rattle.x509_validation.specs.Validation.{AreProcessed, AreSpelled, IsAboutPolicies, IsDecodable, IsOfUse, IsPolicySpelled, IsProcessed, IsSpelled, IsUseSpelled};
+ghost use Rattle.x509_validation.specs.Validation.{AreProcessed, AreSpelled, IsAboutPolicies, IsDecodable, IsOfUse, IsPolicySpelled, IsProcessed, IsSpelled, IsUseSpelled, LacksUsage};
 
+use bitflags::Flags;
 use std::alloc::{AllocError, Global};
 use x509_check::{Check, ExtensionRef};
 use x509_der::{AssociatedOid, Decode, ErrorKind};
@@ -14,42 +15,63 @@ use x509_ext::pkix::{
     BasicConstraints, CertificatePolicies, ExtendedKeyUsage, InhibitAnyPolicy, KeyUsage,
     NameConstraints, PolicyConstraints, PolicyMappings, SubjectAltName,
 };
-use x509_path::extensions::{find_one, is_known, is_readable};
+use x509_path::extensions::{find_one, payload};
 
-/// Whether each critical extension is of a type that is processed here, and can be decoded.
-pub(crate) fn are_processed(extensions: &[ExtensionRef<'_>]) -> bool
-    ensures { IsTrue result ↔ AreProcessed (lent_extensions extensions.now) }
+/// Whether each critical extension is of a type that is processed here, where a purpose is asked for or isn't.
+pub(crate) fn are_processed(asks_purpose: bool, extensions: &[ExtensionRef<'_>]) -> bool
+    ensures { IsTrue result ↔ AreProcessed asks_purpose (lent_extensions extensions.now) }
 {
     for extension in extensions {
-        if extension.critical && !is_processed(extension) {
+        if extension.critical && !is_processed(asks_purpose, extension) {
             return false;
         }
     }
     true
 }
 
-/// Whether the extension is of a type that is processed here, and can be decoded.
-fn is_processed(extension: &ExtensionRef<'_>) -> bool
-    ensures { IsTrue result ↔ IsProcessed (lent_extension extension.now) }
+/// Whether the extension is of a type that is processed here.
+pub(crate) fn is_processed(asks_purpose: bool, extension: &ExtensionRef<'_>) -> bool
+    ensures { IsTrue result ↔ IsProcessed asks_purpose (lent_extension extension.now) }
 {
-    is_of_use(extension) || is_about_policies(extension)
+    is_of_use(asks_purpose, extension) || is_about_policies(extension)
 }
 
-/// Whether the extension says what the certificate is for, or which names are allowed, and can be decoded.
-fn is_of_use(extension: &ExtensionRef<'_>) -> bool
-    ensures { IsTrue result ↔ IsOfUse (lent_extension extension.now) }
+/// Whether the extension has the OID of the type.
+fn is_of<T: AssociatedOid>(extension: &ExtensionRef<'_>) -> bool
+    ensures { IsTrue result ↔ (extension.now.extn_id ≡ T.OID) }
 {
-    is_known(extension) || is_readable::<NameConstraints>(extension)
+    extension.extn_id == T::OID
 }
 
-/// Whether the extension is about policies, and can be decoded.
+/// Whether the extension says what the certificate is for, or which names are allowed.
+fn is_of_use(asks_purpose: bool, extension: &ExtensionRef<'_>) -> bool
+    ensures { IsTrue result ↔ IsOfUse asks_purpose (lent_extension extension.now) }
+{
+    is_of::<BasicConstraints>(extension)
+        || is_of::<KeyUsage>(extension)
+        || is_of::<SubjectAltName>(extension)
+        || is_of::<NameConstraints>(extension)
+        || asks_purpose && is_of::<ExtendedKeyUsage>(extension)
+}
+
+/// Whether the extension is about policies.
 fn is_about_policies(extension: &ExtensionRef<'_>) -> bool
     ensures { IsTrue result ↔ IsAboutPolicies (lent_extension extension.now) }
 {
-    is_readable::<CertificatePolicies>(extension)
-        || is_readable::<PolicyMappings>(extension)
-        || is_readable::<PolicyConstraints>(extension)
-        || is_readable::<InhibitAnyPolicy>(extension)
+    is_of::<CertificatePolicies>(extension)
+        || is_of::<PolicyMappings>(extension)
+        || is_of::<PolicyConstraints>(extension)
+        || is_of::<InhibitAnyPolicy>(extension)
+}
+
+/// Whether there is a KeyUsage that can be decoded, without all bits of the other.
+pub(crate) fn lacks_usage(alloc: Global, asked: KeyUsage, extensions: &[ExtensionRef<'_>]) -> bool
+    ensures { IsTrue result ↔ LacksUsage asked (lent_extensions extensions.now) }
+{
+    match payload::<KeyUsage>(alloc, extensions) {
+        Some(usage) => !usage.0.contains(asked.0),
+        None => false,
+    }
 }
 
 /// Whether the octets of the extension are an encoding of the type, if it has the OID of it.
@@ -84,7 +106,7 @@ fn is_policy_spelled(extension: &ExtensionRef<'_>) -> bool
 }
 
 /// Whether the extension can be decoded, if it is of a type that is looked at.
-fn is_decodable(extension: &ExtensionRef<'_>) -> bool
+pub(crate) fn is_decodable(extension: &ExtensionRef<'_>) -> bool
     ensures { IsTrue result ↔ IsDecodable (lent_extension extension.now) }
 {
     is_use_spelled(extension) && is_policy_spelled(extension)

@@ -1,8 +1,11 @@
 //! What a caller asks of a path.
 
+use crate::asked::Uses;
+use bitflags::Flags;
 use x509_base::DateTime;
+use x509_ext::pkix::{KeyUsage, KeyUsages};
 
-/// What a caller asks of a path (RFC 5280 6.1.1 (b), (c), (e) to (i)).
+/// What a caller asks of a path (RFC 5280 6.1.1 (b), (c), (e) to (i)), and of the last certificate's key (6.1.5 (f)).
 #[derive(Clone, Copy, Debug)]
 pub struct PathSettings<'a> {
     /// The time at which the path is to be valid.
@@ -22,12 +25,28 @@ pub struct PathSettings<'a> {
 
     /// Whether the any-policy of a certificate counts for nothing.
     pub initial_any_policy_inhibit: bool,
+
+    /// The purposes of which one is asked for, any of them, each as the content octets of its OID (RFC 5280 4.2.1.12). Where
+    /// absent none is asked for, and a critical ExtendedKeyUsage isn't processed.
+    pub purposes: Option<&'a [&'a [u8]]>,
+
+    /// Whether one purpose has to be allowed by all certificates of the path, and not by the last one alone.
+    pub is_chained: bool,
+
+    /// The bits that the last certificate's KeyUsage has to have, where it has that extension (RFC 5280 4.2.1.3).
+    pub key_usage: KeyUsage,
+
+    /// Whether certificates of version 1, which have no extensions, are authorities (RFC 5280 6.1.4 (k)): of those in the path
+    /// the caller then knows that they are, or trusts that none below was made by another.
+    pub allows_version_1: bool,
 }
 
 impl<'a> PathSettings<'a> {
-    ghost use Rattle.std.specs.Prelude.{◌≡◌, None, false};
+    ghost use Rattle.std.specs.Prelude.{◌≡◌, None, false, true};
+    ghost use Rattle.x509_validation.specs.Inputs.{uses_of};
 
-    /// Validity at that time, and nothing else: under any policy or none.
+    /// Validity at that time, and nothing else: under any policy or none, and for no purpose. Where purposes are set, they are
+    /// asked of all certificates; none of version 1 is an authority.
     pub fn new(moment: DateTime) -> PathSettings<'a>
         ensures moment { result.moment ≡ moment }
         ensures constraints { result.name_constraints ≡ None }
@@ -35,6 +54,10 @@ impl<'a> PathSettings<'a> {
         ensures mapping { result.initial_policy_mapping_inhibit ≡ false }
         ensures explicit { result.initial_explicit_policy ≡ false }
         ensures any_policy { result.initial_any_policy_inhibit ≡ false }
+        ensures purposes { result.purposes ≡ None }
+        ensures chained { result.is_chained ≡ true }
+        ensures usage { result.key_usage.0.0 ≡ 0 }
+        ensures version_1 { result.allows_version_1 ≡ false }
     {
         PathSettings {
             moment,
@@ -43,6 +66,21 @@ impl<'a> PathSettings<'a> {
             initial_policy_mapping_inhibit: false,
             initial_explicit_policy: false,
             initial_any_policy_inhibit: false,
+            purposes: None,
+            is_chained: true,
+            key_usage: KeyUsage(KeyUsages::empty()),
+            allows_version_1: false,
+        }
+    }
+
+    /// What is asked of the uses of keys.
+    pub(crate) fn uses(&self) -> Uses
+        ensures { result ≡ uses_of self.now }
+    {
+        Uses {
+            is_chained: self.is_chained,
+            key_usage: self.key_usage,
+            allows_version_1: self.allows_version_1,
         }
     }
 }

@@ -1,21 +1,20 @@
 //! What is trusted.
 
-ghost use Rattle.std.specs.Prelude.{◌≡◌, MatchResult, Some};
+ghost use Rattle.std.specs.Prelude.{◌≡◌, ◌↔◌, [], IsTrue, MatchResult, Some};
 ghost use Rattle.x509_check.specs.ExtensionRefs.{extensions_left};
 ghost use Rattle.x509_der.specs.Form.{Spells};
+ghost use Rattle.x509_der.specs.declared.error.ErrorKind.{ErrorKind};
 ghost use Rattle.x509_ext.specs.BasicConstraints.{basic_constraints};
-ghost use Rattle.x509_ext.specs.CertificatePolicies.{certificate_policies};
 ghost use Rattle.x509_ext.specs.Identifiers.{id_ce};
-ghost use Rattle.x509_ext.specs.NameConstraints.{name_constraints};
-ghost use Rattle.x509_ext.specs.declared.pkix.certificate_policies.CertificatePolicies as policy_values;
-ghost use Rattle.x509_ext.specs.declared.pkix.name_constraints.NameConstraints as values;
-ghost use Rattle.x509_validation.specs.Inputs.{LendsConstraints, LendsPolicies};
+ghost use Rattle.x509_path.specs.Certificates as certificates;
+ghost use Rattle.x509_path.specs.Lent.{Lends};
+ghost use Rattle.x509_validation.specs.Inputs.{SpellsOption};
 ghost use Rattle.x509_validation.specs.Trusts as trusts;
 
 use crate::limits::{NO_FLAGS, flags_said, length_of};
 use std::alloc::Global;
 use x509_check::{CertificateRef, Check, ExtensionRefs};
-use x509_der::{AssociatedOid, Decode, Error};
+use x509_der::{AssociatedOid, Decode, Error, ErrorKind};
 use x509_ext::pkix::{
     BasicConstraints, CertificatePolicies, InhibitAnyPolicy, NameConstraints, PolicyConstraints,
 };
@@ -41,37 +40,38 @@ pub struct Trusted<'a> {
     pub policy_flags: AnchorFlags,
 }
 
-/// The octets, where they are those of a NameConstraints.
-fn checked_constraints(octets: &[u8]) -> Result<Option<&[u8]>, Error>
-    ensures { MatchResult result (λ lent. (constraints : values.NameConstraints)
-        × Spells name_constraints constraints octets.now × LendsConstraints lent (Some constraints))
-        (λ e. (constraints : values.NameConstraints) → Spells name_constraints constraints octets.now → ⊥) }
+/// The encoding of a name without RDNs.
+const EMPTY_NAME: &[u8] = &[0x30, 0x00];
+
+/// Whether the subject of the certificate is empty.
+fn has_no_name(certificate: &CertificateRef<'_>) -> bool
+    ensures { (c : certificates.Certificate) → Lends certificate.now.bytes.now c → IsTrue result ↔ (c.tbs_certificate.subject ≡ []) }
 {
-    match NameConstraints::check(octets) {
+    certificate.subject() == EMPTY_NAME
+}
+
+/// The octets, where they are those of a value.
+fn checked<T: Check>(octets: &[u8]) -> Result<Option<&[u8]>, Error>
+    requires { (e : ErrorKind) → T.refuses e → ⊥ }
+    ensures { MatchResult result (λ lent. (value : T) × Spells T.form value octets.now × SpellsOption (λ o. o.now) T.form lent (Some value))
+        (λ e. trusts.IsRefused T.form (λ kind. ⊥) octets.now e.kind) }
+{
+    match T::check(octets) {
         Ok(()) => Ok(Some(octets)),
         Err(e) => Err(e),
     }
 }
 
-/// The octets, where they are those of a CertificatePolicies.
-fn checked_policies(octets: &[u8]) -> Result<Option<&[u8]>, Error>
-    ensures { MatchResult result (λ lent. (policies : policy_values.CertificatePolicies)
-        × Spells certificate_policies policies octets.now × LendsPolicies lent (Some policies))
-        (λ e. (policies : policy_values.CertificatePolicies) → Spells certificate_policies policies octets.now → ⊥) }
+/// The octets of the one extension of the type, if there is one.
+fn lent_value<'a, T: AssociatedOid + Check>(
+    extensions: &ExtensionRefs<'a>,
+) -> Result<Option<&'a [u8]>, Error>
+    requires { (e : ErrorKind) → T.refuses e → ⊥ }
+    ensures { MatchResult result (λ lent. trusts.LendsOwn T.form T.OID (extensions_left extensions.now) lent)
+        (λ e. trusts.RefusesValue T.form T.OID (extensions_left extensions.now) e.kind) }
 {
-    match CertificatePolicies::check(octets) {
-        Ok(()) => Ok(Some(octets)),
-        Err(e) => Err(e),
-    }
-}
-
-/// The octets of the NameConstraints, if there is one.
-fn lent_constraints<'a>(extensions: &ExtensionRefs<'a>) -> Result<Option<&'a [u8]>, Error>
-    ensures { MatchResult result (λ lent. trusts.LendsOwn name_constraints (id_ce 30) (extensions_left extensions.now) lent)
-        (λ e. trusts.HasNoValue name_constraints (id_ce 30) (extensions_left extensions.now)) }
-{
-    match extensions.find_extension(NameConstraints::OID) {
-        Ok(Some(extension)) => checked_constraints(extension.extn_value),
+    match extensions.find_extension(T::OID) {
+        Ok(Some(extension)) => checked::<T>(extension.extn_value),
         Ok(None) => Ok(None),
         Err(e) => Err(e),
     }
@@ -80,22 +80,10 @@ fn lent_constraints<'a>(extensions: &ExtensionRefs<'a>) -> Result<Option<&'a [u8
 /// The path length of the BasicConstraints, if there is one.
 fn own_path_len(alloc: Global, extensions: &ExtensionRefs<'_>) -> Result<Option<u32>, Error>
     ensures { MatchResult result (λ limit. trusts.HasLimit (extensions_left extensions.now) limit)
-        (λ e. trusts.HasNoValue basic_constraints (id_ce 19) (extensions_left extensions.now)) }
+        (λ e. trusts.RefusesValue basic_constraints (id_ce 19) (extensions_left extensions.now) e.kind) }
 {
     match extensions.get_extension::<BasicConstraints>(alloc) {
         Ok(Some((_, constraints))) => Ok(length_of(&constraints)),
-        Ok(None) => Ok(None),
-        Err(e) => Err(e),
-    }
-}
-
-/// The octets of the CertificatePolicies, if there is one.
-fn lent_policies<'a>(extensions: &ExtensionRefs<'a>) -> Result<Option<&'a [u8]>, Error>
-    ensures { MatchResult result (λ lent. trusts.LendsOwn certificate_policies (id_ce 32) (extensions_left extensions.now) lent)
-        (λ e. trusts.HasNoValue certificate_policies (id_ce 32) (extensions_left extensions.now)) }
-{
-    match extensions.find_extension(CertificatePolicies::OID) {
-        Ok(Some(extension)) => checked_policies(extension.extn_value),
         Ok(None) => Ok(None),
         Err(e) => Err(e),
     }
@@ -106,9 +94,10 @@ fn own_value<T: AssociatedOid + Decode>(
     alloc: Global,
     extensions: &ExtensionRefs<'_>,
 ) -> Result<Option<T>, Error>
-    requires { T.wants_memory → ⊥ }
+    requires memory { T.wants_memory → ⊥ }
+    requires refusals { (e : ErrorKind) → T.refuses e → ⊥ }
     ensures { MatchResult result (λ found. trusts.IsValueOf T.form T.OID (extensions_left extensions.now) found)
-        (λ e. trusts.HasNoValue T.form T.OID (extensions_left extensions.now)) }
+        (λ e. trusts.RefusesValue T.form T.OID (extensions_left extensions.now) e.kind) }
 {
     match extensions.get_extension::<T>(alloc) {
         Ok(Some((_, value))) => Ok(Some(value)),
@@ -119,7 +108,8 @@ fn own_value<T: AssociatedOid + Decode>(
 
 /// The flags about policies that the extensions set.
 fn own_flags(alloc: Global, extensions: &ExtensionRefs<'_>) -> Result<AnchorFlags, Error>
-    ensures { MatchResult result (λ flags. trusts.AreFlags (extensions_left extensions.now) flags) (λ e. trusts.HasNoFlags (extensions_left extensions.now)) }
+    ensures { MatchResult result (λ flags. trusts.AreFlags (extensions_left extensions.now) flags)
+        (λ e. trusts.RefusesFlags (extensions_left extensions.now) e.kind) }
 {
     let constraints = own_value::<PolicyConstraints>(alloc, extensions)?;
     let inhibit = own_value::<InhibitAnyPolicy>(alloc, extensions)?;
@@ -131,7 +121,7 @@ impl<'a> Trusted<'a> {
     ghost use Rattle.x509_path.specs.Certificates as certificates;
     ghost use Rattle.x509_validation.specs.Inputs.{LendsTrust, Trust};
     ghost use Rattle.x509_path.specs.Lent.{Lends};
-    ghost use Rattle.x509_validation.specs.Trusts.{IsTrustOf};
+    ghost use Rattle.x509_validation.specs.Trusts.{IsTrustOf, RefusesSigned};
 
     /// A name and a key, for all paths.
     pub fn new(anchor: AnchorRef<'a>) -> Trusted<'a>
@@ -157,21 +147,26 @@ impl<'a> Trusted<'a> {
     ///
     /// # Errors
     ///
-    /// `Failed` where one of the five extensions is repeated; where one can't be decoded, the error of that.
+    /// `Failed` exactly where the subject is empty (RFC 5937 3.2). Else the error of the first of the five extensions that
+    /// gives no value, in the order NameConstraints, BasicConstraints, CertificatePolicies, PolicyConstraints,
+    /// InhibitAnyPolicy: `Failed` where it is repeated, and where it can't be decoded the error of that.
     pub fn from_certificate(
         alloc: Global,
         certificate: &CertificateRef<'a>,
     ) -> Result<Trusted<'a>, Error>
         ensures { (c : certificates.Certificate) → Lends certificate.now.bytes.now c → MatchResult result
             (λ trusted. (trust : Trust) × IsTrustOf c.tbs_certificate trust × LendsTrust trusted trust)
-            (λ e. (trust : Trust) → IsTrustOf c.tbs_certificate trust → ⊥) }
+            (λ e. ((trust : Trust) → IsTrustOf c.tbs_certificate trust → ⊥) × RefusesSigned c.tbs_certificate e.kind) }
     {
+        if has_no_name(certificate) {
+            return Err(ErrorKind::Failed.into());
+        }
         let extensions = certificate.extensions();
         Ok(Trusted {
             anchor: AnchorRef::from_certificate(certificate),
-            name_constraints: lent_constraints(&extensions)?,
+            name_constraints: lent_value::<NameConstraints>(&extensions)?,
             max_path_length: own_path_len(alloc, &extensions)?,
-            policies: lent_policies(&extensions)?,
+            policies: lent_value::<CertificatePolicies>(&extensions)?,
             policy_flags: own_flags(alloc, &extensions)?,
         })
     }

@@ -1,5 +1,6 @@
 //! What is trusted, owned.
 
+ghost use Rattle.std.specs.List.{All};
 ghost use Rattle.std.specs.Prelude.{◌≡◌, ◌⊎◌, ◌↔◌, IsTrue, MatchResult, option_map};
 ghost use Rattle.x509_der.specs.Form.{Spells};
 ghost use Rattle.x509_der.specs.Writing.{plain};
@@ -8,7 +9,7 @@ ghost use Rattle.x509_ext.specs.Identifiers.{id_ce};
 ghost use Rattle.x509_ext.specs.LookUp.{members};
 ghost use Rattle.x509_ext.specs.SubjectKeyIdentifier.{subject_key_identifier};
 ghost use Rattle.x509_validation.specs.Inputs.{SpellsOption, Trust};
-ghost use Rattle.x509_validation.specs.Trusts.{HasItsCertificate, HasKeyId, HoldsTrust, IsCertificateOf, IsOverlong, IsTrustOf, IsTrustOfInfo, RefusesEncoding, RefusesInfo, RefusesItsCertificate, RefusesLimits, RefusesOption, RefusesTrust, RefusesValue, or_else};
+ghost use Rattle.x509_validation.specs.Trusts.{HasItsCertificate, HasKeyId, HoldsTrust, IsCertificateOf, IsOverlong, IsTrustOf, IsTrustOfInfo, RefusesEncoding, RefusesInfo, RefusesItsCertificate, LimitsPaths, MayBeLeft, RefusesOption, RefusesSigned, RefusesTrust, RefusesValue, or_else};
 
 use crate::limits::{flags_or, limits_of, own_limits};
 use crate::trusted::Trusted;
@@ -17,8 +18,12 @@ use x509_base::SubjectPublicKeyInfo;
 use x509_base::laws::equality_of_keys_is_exact;
 use x509_cert::anchor::{CertPathControls, TrustAnchorChoice, TrustAnchorInfo};
 use x509_cert::certificate::TbsCertificate;
-use x509_der::{Decode, Encode, Error, ErrorKind, Spelled};
-use x509_ext::pkix::{CertificatePolicies, NameConstraints, SubjectKeyIdentifier};
+use x509_der::{AssociatedOid, Decode, Encode, Error, ErrorKind, ObjectIdentifier, Spelled};
+use x509_ext::pkix::{
+    BasicConstraints, CertificatePolicies, InhibitAnyPolicy, NameConstraints, PolicyConstraints,
+    SubjectKeyIdentifier,
+};
+use x509_ext::{Extension, Extensions};
 use x509_name::laws::equal_names_are_one_value;
 use x509_name::name::Name;
 use x509_path::AnchorRef;
@@ -96,7 +101,7 @@ fn has_its_certificate(
 }
 
 /// The encoding of the value. All values of the type have one.
-fn encoded<T: Encode + Spelled>(alloc: Global, value: &T) -> Result<Vec<u8>, Error>
+pub(crate) fn encoded<T: Encode + Spelled>(alloc: Global, value: &T) -> Result<Vec<u8>, Error>
     requires plain { T.writing ≡ plain }
     requires good { (v : T) → T.premise v }
     ensures { MatchResult result (λ octets. Spells T.form value.now octets.items) (λ e. RefusesEncoding T.form value.now e.kind) }
@@ -154,8 +159,11 @@ fn held(
 /// What the signed part of a certificate gives.
 fn of_signed(alloc: Global, signed: &TbsCertificate) -> Result<TrustedBuf, Error>
     ensures { MatchResult result (λ trusted. (trust : Trust) × IsTrustOf signed.now trust × HoldsTrust trusted trust)
-        (λ e. RefusesTrust (IsTrustOf signed.now) (RefusesLimits (members signed.now.extensions)) e.kind) }
+        (λ e. RefusesTrust (IsTrustOf signed.now) (RefusesSigned signed.now) e.kind) }
 {
+    if signed.subject().is_empty() {
+        return Err(ErrorKind::Failed.into());
+    }
     let limits = limits_of(alloc, signed)?;
     held(
         alloc,
@@ -175,6 +183,46 @@ fn value_or<'a, T>(value: &'a Option<T>, other: &'a Option<T>) -> &'a Option<T>
     if value.is_some() { value } else { other }
 }
 
+/// Whether the OID is that of an extension that limits paths.
+fn limits_paths(oid: ObjectIdentifier) -> bool
+    ensures { IsTrue result ↔ LimitsPaths oid }
+{
+    oid == BasicConstraints::OID
+        || oid == NameConstraints::OID
+        || oid == CertificatePolicies::OID
+        || oid == PolicyConstraints::OID
+        || oid == InhibitAnyPolicy::OID
+}
+
+/// Whether the extension is neither critical nor one that limits paths.
+fn may_be_left(extension: &Extension) -> bool
+    ensures { IsTrue result ↔ MayBeLeft extension.now }
+{
+    !extension.critical && !limits_paths(extension.extn_id)
+}
+
+/// Whether each of the extensions is one that may be left.
+fn may_all_be_left(extensions: &[Extension]) -> bool
+    ensures { IsTrue result ↔ All (λ e. MayBeLeft e) extensions.now }
+{
+    for extension in extensions {
+        if !may_be_left(extension) {
+            return false;
+        }
+    }
+    true
+}
+
+/// Whether each of the extensions, if there are any, is one that may be left.
+fn may_others_be_left(extensions: &Option<Extensions>) -> bool
+    ensures { IsTrue result ↔ All (λ e. MayBeLeft e) (members extensions.now) }
+{
+    match extensions {
+        Some(extensions) => may_all_be_left(extensions.as_slice()),
+        None => true,
+    }
+}
+
 /// What a description gives.
 fn of_info(alloc: Global, info: &TrustAnchorInfo) -> Result<TrustedBuf, Error>
     ensures { MatchResult result (λ trusted. (trust : Trust) × IsTrustOfInfo info.now trust × HoldsTrust trusted trust)
@@ -183,6 +231,12 @@ fn of_info(alloc: Global, info: &TrustAnchorInfo) -> Result<TrustedBuf, Error>
     let Some(controls) = &info.cert_path else {
         return Err(ErrorKind::Failed.into());
     };
+    if controls.ta_name.is_empty() {
+        return Err(ErrorKind::Failed.into());
+    }
+    if !may_others_be_left(&info.extensions) {
+        return Err(ErrorKind::Failed.into());
+    }
     if !has_its_certificate(alloc, info, controls)? {
         return Err(ErrorKind::Failed.into());
     }
@@ -213,14 +267,16 @@ impl TrustedBuf {
     /// the policies and the flags about these of its `certPath`; in the place of each of these limits that is absent, what
     /// the extensions of its certificate give, if it has one. That certificate has to be of the anchor: its subject is the
     /// name, its public key the key, and its key identifier, if it has one, `keyId`; each is compared as a value, so that
-    /// encodings are equal.
+    /// encodings are equal. The extensions of the description itself aren't followed.
     ///
     /// # Errors
     ///
-    /// Where nothing is trusted: `Failed` where a description has no name, or has a certificate of another name, key or key
-    /// identifier, and where one of the extensions that are looked at is repeated; where one can't be decoded, the error of
-    /// that. `Memory` when out of memory. Of an anchor that wasn't decoded `Overlength` where the name, the key, the
-    /// constraints or the policies are longer than [`Length::MAX`](x509_der::Length::MAX).
+    /// Where nothing is trusted: `Failed` where there is no name, or an empty one (RFC 5937 3.2, RFC 5914 2.5); where a
+    /// description has an extension of its own that is critical, or a NameConstraints, BasicConstraints, CertificatePolicies,
+    /// PolicyConstraints or InhibitAnyPolicy; where its certificate is of another name, key or key identifier; and where one
+    /// of the extensions that are looked at is repeated; where one can't be decoded, the error of that. `Memory` when out of
+    /// memory. Of an anchor that wasn't decoded `Overlength` where the name, the key, the constraints or the policies are longer
+    /// than [`Length::MAX`](x509_der::Length::MAX).
     pub fn from_trust_anchor(alloc: Global, anchor: &TrustAnchorChoice) -> Result<TrustedBuf, Error>
         ensures { MatchResult result (λ trusted. (trust : Trust) × IsTrustOfAnchor anchor.now trust × HoldsTrust trusted trust)
             (λ e. RefusesTrust (IsTrustOfAnchor anchor.now) (RefusesAnchor anchor.now) e.kind) }

@@ -2,19 +2,24 @@
 
 ghost use Rattle.std.specs.Prelude.{◌≡◌, ◌++◌, ◌∷◌, ◌+◌, ◌<◌, [], ℕ, List, MatchOption, MatchResult, Ok, Err, false, length, map, suc, true};
 ghost use Rattle.x509_path.specs.Certificates.{Certificate};
-ghost use Rattle.x509_validation.specs.Inputs.{Inputs, LendsInputs};
+ghost use Rattle.x509_validation.specs.Inputs.{AreUnreadable, Inputs, LendsInputs, SpellsOption};
+ghost use Rattle.x509_validation.specs.Keys.{key_behind, parameters_of};
+ghost use Rattle.x509_der.specs.Any.{any};
 ghost use Rattle.x509_path.specs.Lent.{Lends, LendsAnchor};
 ghost use Rattle.x509_path.specs.Path.{subject_of};
-ghost use Rattle.x509_validation.specs.Steps.{Carries, EndsUnder, IsLimitOf, Judges, Stands, standing};
-ghost use Rattle.x509_validation.specs.Validation.{Answers};
+ghost use Rattle.x509_validation.specs.Steps.{Carries, EndsUnder, IsBehind, Judges, Stands, standing};
+ghost use Rattle.x509_validation.specs.Validation.{Answers, AnswersUnreadable};
 ghost use Rattle.x509_path.specs.declared.anchor.Anchor.{Anchor};
 ghost use Rattle.x509_policy.specs.Views.{octets_of};
 
+use crate::above::Above;
+use crate::asked::{Asked, purposes_at_start};
 use crate::initial::{add_own, initial_sets};
 use crate::matching::length_behind;
 use crate::policies::{
     add_said, any_policy_alone, end_said, merged_with, settings_at_start, user_policies,
 };
+use crate::readable::are_readable;
 use crate::settings::PathSettings;
 use crate::signatures::{OfSlices, OfValues, Signatures};
 use crate::trusted::Trusted;
@@ -23,7 +28,7 @@ use crate::validation_fault::ValidationFault;
 use crate::validator::{Limits, Stand, Validator};
 use std::alloc::Global;
 use x509_check::CertificateRef;
-use x509_path::{AnchorRef, SliceVerifier, Verifier};
+use x509_path::{SliceVerifier, Verifier};
 use x509_policy::PolicyState;
 
 /// Those above the last, and the last.
@@ -41,7 +46,7 @@ fn split_path<'s, 'a>(path: &'s [&'a [u8]]) -> Option<(&'s [&'a [u8]], &'a [u8])
 /// `index` is its place.
 fn go_on<'a, S: Signatures>(
     validator: &Validator<'_, S>,
-    stand: &Stand<'_, '_>,
+    stand: &Stand<'_, 'a>,
     state: &mut PolicyState<'_, 'a>,
     bytes: &'a [u8],
     index: usize,
@@ -49,7 +54,7 @@ fn go_on<'a, S: Signatures>(
     ensures { (inputs : Inputs) (above : Anchor) (before : List Certificate) (n : ℕ)
         → Stands inputs above before validator.now.moment stand.now.above stand.now.max_path_length stand.now.sets.now → Carries inputs n before state.old
         → stand.now.is_last ≡ false → length before + 1 < n → MatchResult result
-        (λ judged. (c : Certificate) × Lends judged.0.bytes.now c × IsLimitOf c judged.1.basic_constraints judged.1.name_constraints
+        (λ judged. (c : Certificate) × Lends judged.0.bytes.now c × IsBehind inputs before c judged.1
         × Carries inputs n (before ++ c ∷ []) state.new
         × Judges (S.accepts validator.now.signatures.now) inputs (standing above before false n) bytes.now index (Ok c))
         (λ e. Judges (S.accepts validator.now.signatures.now) inputs (standing above before false n) bytes.now index (Err e)) }
@@ -67,7 +72,7 @@ fn go_on<'a, S: Signatures>(
 /// What the last certificate gives, of these bytes, where nothing is wrong with it; `index` is its place.
 fn end<'a, S: Signatures>(
     validator: &Validator<'_, S>,
-    stand: &Stand<'_, '_>,
+    stand: &Stand<'_, 'a>,
     state: &PolicyState<'_, 'a>,
     bytes: &'a [u8],
     index: usize,
@@ -76,6 +81,7 @@ fn end<'a, S: Signatures>(
         → Stands inputs above before validator.now.moment stand.now.above stand.now.max_path_length stand.now.sets.now
         → Carries inputs (suc (length before)) before state.now → stand.now.is_last ≡ true → MatchResult result
         (λ validated. (c : Certificate) × LendsAnchor validated.subject (subject_of c)
+        × SpellsOption (λ lent. lent.now) any validated.parameters (parameters_of (key_behind inputs.trust.anchor.key (before ++ c ∷ [])))
         × EndsUnder inputs (before ++ c ∷ []) (octets_of validated.policies.items)
         × Judges (S.accepts validator.now.signatures.now) inputs (standing above before true (suc (length before))) bytes.now index (Ok c))
         (λ e. Judges (S.accepts validator.now.signatures.now) inputs (standing above before true (suc (length before))) bytes.now index (Err e)) }
@@ -84,9 +90,11 @@ fn end<'a, S: Signatures>(
         Ok(judged) => judged,
         Err(e) => return Err(e),
     };
+    let below = stand.above.below(&certificate);
     match end_said(validator.alloc, state, &limits.policies, index) {
         Ok(policies) => Ok(Validated {
-            subject: AnchorRef::from_certificate(&certificate),
+            subject: below.anchor,
+            parameters: below.parameters(),
             policies,
         }),
         Err(e) => Err(e),
@@ -107,9 +115,15 @@ fn walk_down<'a, S: Signatures>(
         → Answers (S.accepts validator.now.signatures.now) inputs (map (λ input. input.now) front.now ++ last.now ∷ []) result }
 {
     let alloc = validator.alloc;
-    let mut sets = initial_sets(alloc, trusted, settings)?;
+    let names = initial_sets(alloc, trusted, settings)?;
+    let purposes = purposes_at_start(alloc, settings)?;
+    let mut sets = Asked {
+        names,
+        purposes,
+        uses: settings.uses(),
+    };
     let mut state = policies;
-    let mut above = trusted.anchor;
+    let mut above = Above::new(trusted.anchor);
     let mut max_path_length = trusted.max_path_length;
     for (index, bytes) in front.iter().enumerate() {
         let stand = Stand {
@@ -122,14 +136,15 @@ fn walk_down<'a, S: Signatures>(
             Ok(judged) => judged,
             Err(e) => return Err(e),
         };
-        above = AnchorRef::from_certificate(&certificate);
+        above = above.below(&certificate);
         max_path_length = length_behind(
             alloc,
             max_path_length,
             &certificate,
             limits.basic_constraints,
         )?;
-        add_own(alloc, &mut sets, &limits.name_constraints)?;
+        add_own(alloc, &mut sets.names, &limits.name_constraints)?;
+        sets.purposes = limits.purposes;
     }
     let stand = Stand {
         above,
@@ -176,13 +191,17 @@ fn walk<'a, S: Signatures>(
     settings: &PathSettings<'a>,
     signatures: &S,
 ) -> Result<Validated<'a>, ValidationFault>
-    ensures { (inputs : Inputs) → LendsInputs trusted.now settings.now inputs
+    ensures lent { (inputs : Inputs) → LendsInputs trusted.now settings.now inputs
         → Answers (S.accepts signatures.now) inputs (map (λ input. input.now) path.now) result }
+    ensures unreadable { AreUnreadable trusted.now settings.now → AnswersUnreadable (map (λ input. input.now) path.now) result }
 {
-    match split_path(path) {
-        Some((front, last)) => walk_under(alloc, trusted, front, last, settings, signatures),
-        None => Err(ValidationFault::Empty),
+    let Some((front, last)) = split_path(path) else {
+        return Err(ValidationFault::Empty);
+    };
+    if !are_readable(trusted, settings) {
+        return Err(ValidationFault::Initial);
     }
+    walk_under(alloc, trusted, front, last, settings, signatures)
 }
 
 /// Validates a path of certificates, the topmost first, under what is trusted (RFC 5280 6.1, RFC 5937): the first under its
@@ -201,11 +220,11 @@ fn walk<'a, S: Signatures>(
 ///
 /// # Errors
 ///
-/// [`ValidationFault::Empty`] exactly where there is no certificate; else [`ValidationFault::Initial`] exactly where name
-/// constraints of what is trusted, or of the settings, can't be used; else [`ValidationFault::At`] with the lowest place at
-/// which something is wrong, and the first thing that is wrong there, in the order of
-/// [`ValidationReason`](crate::ValidationReason). [`ValidationFault::Memory`] may come instead, when out of memory, wherever
-/// there is a certificate: no clause says which of them take memory.
+/// [`ValidationFault::Empty`] exactly where there is no certificate; else [`ValidationFault::Initial`] exactly where a part of
+/// what is trusted, or of the settings, isn't the encoding that it is said to be, or name constraints of these can't be used;
+/// else [`ValidationFault::At`] with the lowest place at which something is wrong, and the first thing that is wrong there, in
+/// the order of [`ValidationReason`](crate::ValidationReason). [`ValidationFault::Memory`] may come instead, when out of memory,
+/// wherever there is a certificate and all can be read: no clause says which of them take memory.
 pub fn validate_path<'a, V: Verifier>(
     alloc: Global,
     trusted: &Trusted<'a>,
@@ -213,8 +232,9 @@ pub fn validate_path<'a, V: Verifier>(
     settings: &PathSettings<'a>,
     verifier: &V,
 ) -> Result<Validated<'a>, ValidationFault>
-    ensures { (inputs : Inputs) → LendsInputs trusted.now settings.now inputs
+    ensures lent { (inputs : Inputs) → LendsInputs trusted.now settings.now inputs
         → Answers (V.accepts verifier.now) inputs (map (λ input. input.now) path.now) result }
+    ensures unreadable { AreUnreadable trusted.now settings.now → AnswersUnreadable (map (λ input. input.now) path.now) result }
 {
     walk(alloc, trusted, path, settings, &OfValues { verifier })
 }
@@ -231,8 +251,9 @@ pub fn validate_path_lent<'a, V: SliceVerifier>(
     settings: &PathSettings<'a>,
     verifier: &V,
 ) -> Result<Validated<'a>, ValidationFault>
-    ensures { (inputs : Inputs) → LendsInputs trusted.now settings.now inputs
+    ensures lent { (inputs : Inputs) → LendsInputs trusted.now settings.now inputs
         → Answers (V.accepts verifier.now) inputs (map (λ input. input.now) path.now) result }
+    ensures unreadable { AreUnreadable trusted.now settings.now → AnswersUnreadable (map (λ input. input.now) path.now) result }
 {
     walk(alloc, trusted, path, settings, &OfSlices { verifier })
 }

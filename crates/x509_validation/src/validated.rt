@@ -8,6 +8,11 @@ pub struct Validated<'a> {
     /// The subject and the public key of the last certificate, lent from it.
     pub subject: AnchorRef<'a>,
 
+    /// The parameters with which that key is used, as their element: those of its algorithm, or where these are left out or
+    /// NULL those of the nearest key above it that has any, where each key between is of the same algorithm; none where there
+    /// are none (RFC 5280 6.1.4 (d) to (f)).
+    pub parameters: Option<&'a [u8]>,
+
     /// The policies under which the path is valid, the user-constrained policy set: each as the content octets of its OID,
     /// lent from a certificate, from what is trusted or from the settings. Any-policy is one of them. There are none where the
     /// certificates name none and none is asked for.

@@ -27,18 +27,22 @@ pub enum ValidationReason {
     /// (RFC 5280 6.1.3 (a) (1)).
     Signature,
 
+    /// There are extensions, and the version isn't 3 (RFC 5280 4.1.2.9).
+    Version,
+
     /// Two extensions have one OID (RFC 5280 4.2).
     Repeated,
 
-    /// A critical extension isn't a BasicConstraints, KeyUsage, ExtendedKeyUsage, SAN, NameConstraints, CertificatePolicies,
-    /// PolicyMappings, PolicyConstraints or InhibitAnyPolicy, or can't be decoded (RFC 5280 6.1.4 (o), 6.1.5 (f)).
-    Critical,
-
-    /// An extension of one of those types can't be decoded, whether it is critical or not.
+    /// A BasicConstraints, KeyUsage, ExtendedKeyUsage, SAN, NameConstraints, CertificatePolicies, PolicyMappings,
+    /// PolicyConstraints or InhibitAnyPolicy can't be decoded, whether it is critical or not.
     Extension,
 
-    /// There is no BasicConstraints that can be decoded and has cA set (RFC 5280 6.1.4 (k)). It is asked of all
-    /// certificates but the last.
+    /// A critical extension is of none of those types, or is an ExtendedKeyUsage, and no purpose is asked for (RFC 5280
+    /// 6.1.4 (o), 6.1.5 (f)).
+    Critical,
+
+    /// There is no BasicConstraints that can be decoded and has cA set, or the version isn't 3 (RFC 5280 6.1.4 (k)); one of
+    /// version 1 is an authority where the caller allows these. It is asked of all certificates but the last.
     NotCa,
 
     /// There is a KeyUsage, and it can't be decoded, or hasn't keyCertSign (RFC 5280 6.1.4 (n)). It is asked of all
@@ -49,12 +53,21 @@ pub enum ValidationReason {
     /// constraint allows (RFC 5280 6.1.4 (l), (m)). It is asked of all certificates but the last.
     PathLen,
 
+    /// There is a KeyUsage without all bits that are asked for (RFC 5280 4.2.1.3). It is asked of the last certificate.
+    Usage,
+
+    /// Each purpose that is asked for is one that this certificate doesn't allow, or one above: an ExtendedKeyUsage is there,
+    /// and has neither it nor anyExtendedKeyUsage (RFC 5280 4.2.1.12). It is asked of the last certificate, and where purposes
+    /// are chained of all.
+    Purpose,
+
     /// A name isn't within what the name constraints above permit, or is within what they exclude (RFC 5280 6.1.3 (b),
-    /// (c)). It is asked of the last certificate and of those that aren't self-issued.
+    /// (c)), or they have a subtree of its form with a minimum other than 0, a maximum, or a base that is none. It is asked
+    /// of the last certificate and of those that aren't self-issued.
     Names,
 
-    /// There is a NameConstraints that can't be used (RFC 5280 4.2.1.10): a minimum other than 0, a maximum, or an
-    /// address or a mask that is none. It is asked of all certificates but the last.
+    /// There is a NameConstraints that can't be used (RFC 5280 4.2.1.10): a list of its subtrees is there and empty. It is
+    /// asked of all certificates but the last.
     Constraints,
 
     /// A policy is twice in the CertificatePolicies (RFC 5280 4.2.1.4).
@@ -77,7 +90,10 @@ pub enum ValidationFault {
     /// The path is empty.
     Empty,
 
-    /// Name constraints of what is trusted, or of the caller, can't be decoded or used.
+    /// The path isn't empty, and what it is validated by can't be read or used: the name or the public key that is trusted
+    /// isn't the encoding of one; name constraints, of what is trusted or of the settings, aren't the encoding of a
+    /// NameConstraints, or can't be used (RFC 5280 4.2.1.10); the policies of what is trusted aren't the encoding of a
+    /// CertificatePolicies; or a policy of the settings isn't the content octets of an OID.
     Initial,
 
     /// Something is wrong with a certificate.
@@ -100,12 +116,15 @@ impl fmt::Display for ValidationReason {
             ValidationReason::Issuer => "Issuer",
             ValidationReason::Moment => "Moment",
             ValidationReason::Signature => "Signature",
+            ValidationReason::Version => "Version",
             ValidationReason::Repeated => "Repeated",
-            ValidationReason::Critical => "Critical",
             ValidationReason::Extension => "Extension",
+            ValidationReason::Critical => "Critical",
             ValidationReason::NotCa => "NotCa",
             ValidationReason::KeyUsage => "KeyUsage",
             ValidationReason::PathLen => "PathLen",
+            ValidationReason::Usage => "Usage",
+            ValidationReason::Purpose => "Purpose",
             ValidationReason::Names => "Names",
             ValidationReason::Constraints => "Constraints",
             ValidationReason::RepeatedPolicy => "RepeatedPolicy",

@@ -2,43 +2,48 @@
 
 ghost use Rattle.std.specs.Prelude.{◌≡◌, ◌↔◌, IfOk, IsTrue, List, Option, false};
 ghost use Rattle.x509_path.specs.Certificates as certificates;
-ghost use Rattle.x509_path.specs.Lent.{lent_extensions};
+ghost use Rattle.x509_path.specs.Lent.{Lends, lent_extensions};
 ghost use Rattle.x509_validation.specs.Steps.{AreConstraintsOf};
-ghost use Rattle.x509_validation.specs.Validation.{HasUnusable};
+ghost use Rattle.x509_validation.specs.Validation.{HasOtherVersion, HasUnusable};
 ghost use Rattle.x509_validation.specs.declared.validation_fault.ValidationFault.TheVariants as faults;
 ghost use Rattle.x509_validation.specs.declared.validation_fault.ValidationReason.TheVariants as reasons;
 
-use crate::applied::Applied;
+use crate::above::{Above, filled_in};
+use crate::asked::{Asked, is_authority};
 use crate::matching::{is_asked, is_over, names_match};
 use crate::policies::{Said, said_of};
-use crate::processed::{are_processed, are_spelled, owned_payload};
+use crate::processed::{are_processed, are_spelled, lacks_usage, owned_payload};
+use crate::purposes::{is_any_asked, is_none_left, purposes_behind};
 use crate::signatures::{Signatures, known_value};
 use crate::validation_fault::{ValidationFault, ValidationReason};
 use std::alloc::{AllocError, Global};
 use x509_base::DateTime;
+use x509_cert::certificate::Version;
 use x509_cert::laws::one_signed_part;
 use x509_check::{CertificateRef, ExtensionRef};
 use x509_constraints::is_usable;
 use x509_ext::pkix::{BasicConstraints, NameConstraints, SubjectAltName};
 use x509_name::name::Name;
-use x509_path::AnchorRef;
-use x509_path::certificate::{has_two_algorithms, is_outside, signed_of};
+use x509_path::certificate::{Signed, has_two_algorithms, is_outside, signed_of};
 use x509_path::extensions::{
-    basic_constraints, collect, front, gather, is_ca, is_repeated, lacks_key_cert_sign, places,
+    basic_constraints, collect, front, gather, is_repeated, lacks_key_cert_sign, places,
 };
 
 /// The reasons after `Decode`, in their order, those of policies apart.
-const REASONS: [ValidationReason; 12] = [
+const REASONS: [ValidationReason; 15] = [
     ValidationReason::Algorithm,
     ValidationReason::Issuer,
     ValidationReason::Moment,
     ValidationReason::Signature,
+    ValidationReason::Version,
     ValidationReason::Repeated,
-    ValidationReason::Critical,
     ValidationReason::Extension,
+    ValidationReason::Critical,
     ValidationReason::NotCa,
     ValidationReason::KeyUsage,
     ValidationReason::PathLen,
+    ValidationReason::Usage,
+    ValidationReason::Purpose,
     ValidationReason::Names,
     ValidationReason::Constraints,
 ];
@@ -47,13 +52,13 @@ const REASONS: [ValidationReason; 12] = [
 #[derive(Clone, Copy)]
 pub(crate) struct Stand<'s, 'a> {
     /// The name and the key above it.
-    pub(crate) above: AnchorRef<'a>,
+    pub(crate) above: Above<'a>,
 
     /// How many certificates that aren't self-issued may follow, where that is limited.
     pub(crate) max_path_length: Option<u32>,
 
-    /// The name constraints that apply.
-    pub(crate) sets: &'s Applied,
+    /// What is asked of it: names, purposes and uses.
+    pub(crate) sets: &'s Asked<'a>,
 
     /// Whether it is the last.
     pub(crate) is_last: bool,
@@ -83,6 +88,9 @@ pub(crate) struct Limits<'a> {
 
     /// The value of its NameConstraints.
     pub(crate) name_constraints: Option<NameConstraints>,
+
+    /// The purposes that are left behind it, where one is asked for.
+    pub(crate) purposes: Option<Vec<&'a [u8]>>,
 
     /// What it says of policies.
     pub(crate) policies: Said<'a>,
@@ -128,14 +136,27 @@ fn is_unusable(constraints: &Option<NameConstraints>) -> bool
     }
 }
 
+/// Whether there are extensions, and the version isn't 3.
+fn has_other_version(certificate: &CertificateRef<'_>, extensions: &[ExtensionRef<'_>]) -> bool
+    ensures { (c : certificates.Certificate) → Lends certificate.now.bytes.now c → lent_extensions extensions.now ≡ certificates.extensions_of c
+        → IsTrue result ↔ HasOtherVersion c }
+{
+    !extensions.is_empty() && certificate.version() != Version::V3
+}
+
 impl<S: Signatures> Validator<'_, S> {
     ghost use Rattle.std.specs.Prelude.{◌≡◌, ◌↔◌, ◌⊎◌, ℕ, List, Ok, Err, IfOk, IsTrue, MatchResult, true, false};
     ghost use Rattle.x509_match.specs.Matching.{NamesMatch};
     ghost use Rattle.x509_path.specs.Certificates as certificates;
     ghost use Rattle.x509_validation.specs.Inputs.{Inputs};
     ghost use Rattle.x509_path.specs.Lent.{Lends, LendsAnchor, lent_extensions};
-    ghost use Rattle.x509_validation.specs.Steps.{IsOwn, JudgesAlone, JudgesParts, Knows, Stands, standing};
-    ghost use Rattle.x509_validation.specs.Validation.{AreNamesAllowed, Breaks};
+    ghost use Rattle.x509_base.specs.AlgorithmIdentifier.{algorithm_identifier};
+    ghost use Rattle.x509_base.specs.declared.algorithm_identifier.AlgorithmIdentifier as algorithms;
+    ghost use Rattle.x509_base.specs.declared.subject_public_key_info.SubjectPublicKeyInfo as keys;
+    ghost use Rattle.x509_der.specs.Form.{Spells};
+    ghost use Rattle.x509_prim.specs.BitString.{BitParts, bit_string};
+    ghost use Rattle.x509_validation.specs.Steps.{HoldsKey, IsOwn, JudgesAlone, JudgesParts, Knows, Stands, standing};
+    ghost use Rattle.x509_validation.specs.Validation.{AreNamesAllowed, Breaks, LackPurpose, asked_at};
     ghost use Rattle.x509_path.specs.declared.anchor.Anchor.{Anchor};
     ghost use Rattle.x509_validation.specs.declared.validation_fault.ValidationReason.TheVariants as reasons;
 
@@ -145,11 +166,29 @@ impl<S: Signatures> Validator<'_, S> {
         stand: &Stand<'_, '_>,
         certificate: &CertificateRef<'_>,
     ) -> Result<bool, AllocError>
-        ensures { IfOk result (λ b. (c : certificates.Certificate) (above : Anchor) → Lends certificate.now.bytes.now c → LendsAnchor stand.now.above above
-            → IsTrue b ↔ (NamesMatch c.tbs_certificate.issuer above.name → ⊥)) }
+        ensures { IfOk result (λ b. (c : certificates.Certificate) (above : Anchor) → Lends certificate.now.bytes.now c
+            → LendsAnchor stand.now.above.anchor above → IsTrue b ↔ (NamesMatch c.tbs_certificate.issuer above.name → ⊥)) }
     {
-        let is_same = names_match(self.alloc, certificate.issuer(), stand.above.name)?;
+        let is_same = names_match(self.alloc, certificate.issuer(), stand.above.anchor.name)?;
         Ok(!is_same)
+    }
+
+    /// Whether the verifier accepts the signature for the key above, as that is used.
+    fn is_accepted(&self, stand: &Stand<'_, '_>, signed: &Signed<'_>) -> Result<bool, AllocError>
+        ensures { IfOk result (λ b. (key : keys.SubjectPublicKeyInfo) (algorithm : algorithms.AlgorithmIdentifier) (bits : BitParts)
+            → HoldsKey stand.now.above key → Spells algorithm_identifier algorithm signed.now.algorithm.now
+            → Spells bit_string bits signed.now.signature.now → b ≡ S.accepts self.now.signatures.now algorithm key signed.now.message.now bits) }
+    {
+        let own = stand.above.anchor.key;
+        let Some(parameters) = stand.above.inherited else {
+            return self.signatures.is_accepted(self.alloc, own, signed);
+        };
+        match filled_in(self.alloc, own, parameters) {
+            Ok(filled) => self
+                .signatures
+                .is_accepted(self.alloc, filled.as_slice(), signed),
+            Err(_) => Err(AllocError),
+        }
     }
 
     /// Whether the verifier accepts the signature of the signed part, as it stands in the bytes.
@@ -158,14 +197,12 @@ impl<S: Signatures> Validator<'_, S> {
         stand: &Stand<'_, '_>,
         certificate: &CertificateRef<'_>,
     ) -> Result<bool, AllocError>
-        ensures { IfOk result (λ b. (c : certificates.Certificate) (above : Anchor) → Lends certificate.now.bytes.now c → LendsAnchor stand.now.above above
-            → IsTrue b ↔ certificates.IsSigned (S.accepts self.now.signatures.now) above.key certificate.now.bytes.now c) }
+        ensures { IfOk result (λ b. (c : certificates.Certificate) (key : keys.SubjectPublicKeyInfo) → Lends certificate.now.bytes.now c
+            → HoldsKey stand.now.above key → IsTrue b ↔ certificates.IsSigned (S.accepts self.now.signatures.now) key certificate.now.bytes.now c) }
     {
         one_signed_part();
         let signed = signed_of(certificate);
-        let accepted = self
-            .signatures
-            .is_accepted(self.alloc, stand.above.key, &signed)?;
+        let accepted = self.is_accepted(stand, &signed)?;
         Ok(accepted)
     }
 
@@ -198,6 +235,7 @@ impl<S: Signatures> Validator<'_, S> {
         let names = owned_payload::<SubjectAltName>(self.alloc, parts.extensions)?;
         let are_allowed = stand
             .sets
+            .names
             .sets
             .allows_names(self.alloc, &subject, names.as_ref())?;
         Ok(are_allowed)
@@ -215,7 +253,7 @@ impl<S: Signatures> Validator<'_, S> {
             → IsTrue b ↔ Breaks (S.accepts self.now.signatures.now) inputs (standing above before stand.now.is_last n) parts.now.certificate.now.bytes.now c
             reasons.Names) }
     {
-        if !stand.sets.is_any {
+        if !stand.sets.names.is_any {
             return Ok(false);
         }
         if !is_asked(self.alloc, stand.is_last, parts.certificate)? {
@@ -223,6 +261,21 @@ impl<S: Signatures> Validator<'_, S> {
         }
         let are_allowed = self.are_allowed(stand, parts)?;
         Ok(!are_allowed)
+    }
+
+    /// Whether a purpose is asked for, and none is left behind the certificate with these extensions.
+    fn lacks_purpose(
+        &self,
+        stand: &Stand<'_, '_>,
+        extensions: &[ExtensionRef<'_>],
+    ) -> Result<bool, AllocError>
+        ensures { IfOk result (λ b. (inputs : Inputs) (above : Anchor) (before : List certificates.Certificate) (c : certificates.Certificate)
+            → Stands inputs above before self.now.moment stand.now.above stand.now.max_path_length stand.now.sets.now
+            → lent_extensions extensions.now ≡ certificates.extensions_of c
+            → IsTrue b ↔ LackPurpose inputs.purposes (asked_at inputs.uses.is_chained stand.now.is_last before c)) }
+    {
+        let left = purposes_behind(self.alloc, stand.sets, stand.is_last, extensions)?;
+        Ok(is_none_left(&left))
     }
 
     /// Whether the certificate has that fault, its policies apart.
@@ -246,14 +299,25 @@ impl<S: Signatures> Validator<'_, S> {
             ValidationReason::Issuer => self.is_of_another(stand, certificate),
             ValidationReason::Moment => Ok(is_outside(self.moment, certificate)),
             ValidationReason::Signature => Ok(!self.is_signed(stand, certificate)?),
+            ValidationReason::Version => Ok(has_other_version(certificate, extensions)),
             ValidationReason::Repeated => is_repeated(self.alloc, extensions),
-            ValidationReason::Critical => Ok(!are_processed(extensions)),
             ValidationReason::Extension => Ok(!are_spelled(extensions)),
-            ValidationReason::NotCa => Ok(!stand.is_last && !is_ca(parts.basic_constraints)),
+            ValidationReason::Critical => {
+                let asks_purpose = is_any_asked(&stand.sets.purposes);
+                Ok(!are_processed(asks_purpose, extensions))
+            }
+            ValidationReason::NotCa => {
+                let basic_constraints = parts.basic_constraints;
+                Ok(!stand.is_last && !is_authority(stand.sets.uses, certificate, basic_constraints))
+            }
             ValidationReason::KeyUsage => {
                 Ok(!stand.is_last && lacks_key_cert_sign(self.alloc, extensions))
             }
             ValidationReason::PathLen => self.is_too_deep(stand, certificate),
+            ValidationReason::Usage => Ok(
+                stand.is_last && lacks_usage(self.alloc, stand.sets.uses.key_usage, extensions),
+            ),
+            ValidationReason::Purpose => self.lacks_purpose(stand, extensions),
             ValidationReason::Names => self.has_other_names(stand, parts),
             ValidationReason::Constraints => {
                 Ok(!stand.is_last && is_unusable(parts.name_constraints))
@@ -267,7 +331,7 @@ impl<S: Signatures> Validator<'_, S> {
     /// What a certificate says of those below it with which nothing is wrong, its policies apart; `index` is its place.
     fn judge_parts<'a>(
         &self,
-        stand: &Stand<'_, '_>,
+        stand: &Stand<'_, 'a>,
         certificate: &CertificateRef<'a>,
         extensions: &[ExtensionRef<'a>],
         index: usize,
@@ -293,10 +357,12 @@ impl<S: Signatures> Validator<'_, S> {
                 });
             }
         }
+        let purposes = purposes_behind(self.alloc, stand.sets, stand.is_last, extensions)?;
         let policies = said_of(self.alloc, certificate, extensions)?;
         Ok(Limits {
             basic_constraints,
             name_constraints,
+            purposes,
             policies,
         })
     }
@@ -304,7 +370,7 @@ impl<S: Signatures> Validator<'_, S> {
     /// The same of a certificate with any number of extensions.
     fn judge_many<'a>(
         &self,
-        stand: &Stand<'_, '_>,
+        stand: &Stand<'_, 'a>,
         certificate: &CertificateRef<'a>,
         index: usize,
     ) -> Result<Limits<'a>, ValidationFault>
@@ -321,7 +387,7 @@ impl<S: Signatures> Validator<'_, S> {
     /// The same, without memory where the places are enough for its extensions.
     fn judge_within<'a>(
         &self,
-        stand: &Stand<'_, '_>,
+        stand: &Stand<'_, 'a>,
         certificate: &CertificateRef<'a>,
         few: &mut [ExtensionRef<'a>],
         index: usize,
@@ -342,7 +408,7 @@ impl<S: Signatures> Validator<'_, S> {
     /// The same, without memory for up to 16 extensions.
     fn judge_read<'a>(
         &self,
-        stand: &Stand<'_, '_>,
+        stand: &Stand<'_, 'a>,
         certificate: &CertificateRef<'a>,
         index: usize,
     ) -> Result<Limits<'a>, ValidationFault>
@@ -358,7 +424,7 @@ impl<S: Signatures> Validator<'_, S> {
     /// `index` is its place.
     pub(crate) fn judge<'a>(
         &self,
-        stand: &Stand<'_, '_>,
+        stand: &Stand<'_, 'a>,
         bytes: &'a [u8],
         index: usize,
     ) -> Result<(CertificateRef<'a>, Limits<'a>), ValidationFault>

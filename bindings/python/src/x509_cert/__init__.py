@@ -3,6 +3,7 @@
 The names are those of `cryptography.x509` where both have the same thing. All bytes are taken apart by the C library; nothing here parses DER.
 """
 
+from . import merkle
 from ._cryptography import Signer
 from ._extension import ExtensionType
 from ._library import X509Error, library_version
@@ -87,7 +88,7 @@ from .other_extensions import (
     TLSFeature,
     TLSFeatureType,
 )
-from .path import PathFault, Verifier, check_path
+from .path import PathFault, Verifier, check_path, working_key
 from .policies import (
     CertificatePolicies,
     CPSPointer,
@@ -183,6 +184,7 @@ __all__ = [
     "load_pem_x509_crl",
     "load_pem_x509_csr",
     "may_sign_crls",
+    "merkle",
     "Name",
     "NameAttribute",
     "NameConstraints",
@@ -237,5 +239,6 @@ __all__ = [
     "ValidatedPath",
     "Verifier",
     "Version",
+    "working_key",
     "X509Error",
 ]

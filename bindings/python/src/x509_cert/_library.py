@@ -27,6 +27,7 @@ class X509Error(ValueError):
         FAILED: "what was given has no such answer",
         SET_DUPLICATE: "a relative distinguished name has an attribute twice",
         VALUE: "a value is out of range, or can't be written",
+        ABSENT: "what was asked for isn't there",
         REPEATED: "an extension is there more than once",
     }
 
@@ -38,8 +39,8 @@ class X509Error(ValueError):
         "x509_attribute_encode": "the attribute doesn't have that string type",
         "x509_crl_issued_next": "an entry has its issuer twice",
         "x509_request_extensions": "the attribute that asks for extensions hasn't one value",
-        "x509_path_validate": "the anchor has an extension twice",
-        "x509_path_validate_under_anchor": "the anchor has an extension twice, no name, or the certificate of another",
+        "x509_path_validate": "the anchor has no name, or an extension twice",
+        "x509_path_validate_under_anchor": "the anchor has no name, an extension twice or one that would have to be followed, or the certificate of another",
         "x509_build_root": "a root's subject has a country, an organization and a common name, in that order, each alone in its relative name; `sign` makes a "
         "root of any other name",
         "x509_build_device": "none of the names is that of a hardware module",
@@ -300,7 +301,7 @@ class PathFaultView(ctypes.Structure):
 
 
 class PathSettings(ctypes.Structure):
-    _fields_ = [("moment", ctypes.c_uint64), ("flags", ctypes.c_uint64)]
+    _fields_ = [(it, ctypes.c_uint64) for it in ("moment", "flags", "key_usage", "purposes", "purpose_len")] + [("purpose", ctypes.c_uint8 * 64)]
 
 
 class PathAnswerView(ctypes.Structure):

@@ -11,7 +11,7 @@ from typing import Any, NamedTuple, Sequence
 
 from ._given import der_of, instance, octets
 from ._keyed import Keyed
-from ._library import FAULT, OK, RAW, RFC5280, CertificateView, PathFaultView, SignatureView, Span, X509Error, fill, status_of, view
+from ._library import ABSENT, FAULT, OK, RAW, RFC5280, CertificateView, PathFaultView, SignatureView, Span, X509Error, fill, status_of, view
 from ._numbers import moment, whole_number
 from ._pem import blocks, refuse_pem
 from ._signed import Signed
@@ -110,6 +110,17 @@ class Certificate(Keyed, Signed):
     def tbs_certificate_bytes(self) -> bytes:
         """The bytes that the signature is over, as they stand in the DER."""
         return view("x509_signed_slice", Span, self._data).of(self._data)
+
+    @property
+    def tbs_precertificate_bytes(self) -> bytes:
+        """The TBSCertificate that a log has (RFC 6962 3.2): of a certificate without its list of timestamps, of a precertificate without the poison; all else
+        byte for byte as it stands, but for the lengths above it. An X509Error where there is neither, or one of these twice."""
+        try:
+            return fill("x509_logged_part", self._data)
+        except X509Error as error:
+            if error.status != ABSENT:
+                raise
+        return fill("x509_logged_precertificate", self._data)
 
     @property
     def _signature(self) -> SignatureView:

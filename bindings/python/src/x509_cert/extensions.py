@@ -6,13 +6,13 @@ import datetime
 import enum
 import hashlib
 import ipaddress
-from typing import Generic, Iterable, Iterator, Sequence, TypeVar
+from typing import TYPE_CHECKING, Generic, Iterable, Iterator, Sequence, TypeVar
 
 from . import _cryptography
 from ._cryptography import AnyPublicKey
 from ._der import ENUMERATED, OCTET_STRING, SEQUENCE, context, element, flag, integer, named_bits
 from ._extension import ExtensionType, ListExtension, _number, _part
-from ._given import instance, listed, octets, some, whole
+from ._given import der_of, instance, listed, octets, some, whole
 from ._library import (
     AccessView,
     AuthorityKeyIdentifierView,
@@ -25,11 +25,13 @@ from ._library import (
     Span,
     SubtreeView,
     TimestampView,
+    fill,
     number,
     view,
     walk,
 )
 from ._writing import general_name_der, general_names_der, identifier_of, relative_name_der
+from .algorithms import ECDSA, RSA, algorithm_of
 from .general_name import DNSName, GeneralName, GeneralNames, IPAddress, general_name
 from .key import PublicKey
 from .name import RelativeDistinguishedName
@@ -45,6 +47,9 @@ from .other_extensions import (
     _Names,
 )
 from .policies import CertificatePolicies, InhibitAnyPolicy, PolicyConstraints, PolicyMappings
+
+if TYPE_CHECKING:
+    from .certificate import Certificate
 
 
 class ExtensionNotFound(Exception):
@@ -573,6 +578,16 @@ class CRLReason(ExtensionType):
         self.reason = ReasonFlags(number("x509_crl_reason", data))
 
 
+# how logs sign (RFC 6962 2.1.4), by the numbers of hash and signature (RFC 5246 7.4.1.4.1)
+_WAYS_OF_LOGS = {(4, 1): RSA, (4, 3): ECDSA}
+
+
+def _certificate_der(given: object, what: str) -> bytes:
+    from .certificate import certificate_of
+
+    return certificate_of(given, what).public_bytes()
+
+
 class SignedCertificateTimestamp:
     """A log's promise to have a certificate (RFC 6962 3.2), by its octets. An X509Error where they aren't a timestamp of version 1."""
 
@@ -589,6 +604,27 @@ class SignedCertificateTimestamp:
     def timestamp(self) -> datetime.datetime:
         """When the log had it, in UTC without a time zone, as of `cryptography`; an OverflowError after the year 9999."""
         return datetime.datetime(1970, 1, 1) + datetime.timedelta(milliseconds=self.milliseconds)
+
+    def signature_input(self, certificate: Certificate, issuer: Certificate | None = None) -> bytes:
+        """What its signature is over (RFC 6962 3.2): of a timestamp within the certificate, whose issuer's certificate is given; where none is, of one that
+        came beside the certificate, in the TLS handshake or in an OCSP response (3.3). That the certificate has it, and that the issuer issued it, isn't looked
+        at. An X509Error where an issuer is given, and the certificate hasn't one list of timestamps. Certificates of `cryptography` are taken too."""
+        data = _certificate_der(certificate, "the certificate")
+        if issuer is None:
+            return fill("x509_timestamp_signed_data_beside", self.data, data)
+        return fill("x509_timestamp_signed_data", self.data, data, _certificate_der(issuer, "the issuer"))
+
+    def verify(self, log_key: AnyPublicKey, certificate: Certificate, issuer: Certificate | None = None) -> None:
+        """Verifies it by `cryptography` with the key of its log, of the certificate and the issuer as of `signature_input`. A ValueError where the key is that
+        of another log, or the signature isn't by RSA or ECDSA with SHA-256, as those of logs are (RFC 6962 2.1.4); InvalidSignature where it is none."""
+        info = _cryptography.key_bytes(log_key, "the key of the log")
+        if hashlib.sha256(info).digest() != self.log_id:
+            raise ValueError("the key is that of another log")
+        way = _WAYS_OF_LOGS.get((self.hash_algorithm, self.signature_algorithm))
+        algorithm = None if way is None else algorithm_of(way, "sha256")
+        if algorithm is None:
+            raise ValueError("the signatures of logs are by RSA or ECDSA with SHA-256")
+        _cryptography.verify(info, algorithm, self.signature_input(certificate, issuer), self.signature)
 
     def __eq__(self, other: object) -> bool:
         return isinstance(other, SignedCertificateTimestamp) and self.data == other.data

@@ -7,6 +7,7 @@ from typing import Callable, Iterable
 
 from . import _cryptography
 from ._given import octets, seconds
+from ._library import fill
 from .certificate import Certificate, certificate_of, path_fault
 from .key import AlgorithmIdentifier
 
@@ -18,7 +19,8 @@ class PathFault(Exception):
         "is no certificate; has another algorithm in its signed part; has another issuer than the certificate above; isn't valid at the moment; "
         "has a signature that isn't accepted; has an extension twice; has a critical extension that isn't known; is no authority; may not sign "
         "certificates; has more below it than its path length allows; has an extension that can't be read; has a name that the constraints above don't allow; "
-        "has name constraints that can't be used; has a policy twice; leaves no policy, and one is asked for; maps any-policy"
+        "has name constraints that can't be used; has a policy twice; leaves no policy, and one is asked for; maps any-policy; is for another purpose; "
+        "has a key for another use; has extensions, and another version than 3"
     ).split("; ")
 
     def __init__(self, place: int, reason: int) -> None:
@@ -43,7 +45,8 @@ def check_path(
     begun = seconds(moment, "the moment")
     anchor = Certificate(_encoding(anchor, "the anchor"))
     given = _encodings(path)
-    return _verified(anchor.public_key_bytes, given, path_fault(anchor.public_bytes(), given, begun), verify)
+    certificates, _ = _verified(anchor.public_key_bytes, given, path_fault(anchor.public_bytes(), given, begun), verify, lambda above, key: key)
+    return certificates
 
 
 def _encodings(path: Iterable[Certificate | bytes]) -> list[bytes]:
@@ -62,8 +65,18 @@ def _encoding(given: Certificate | bytes, what: str) -> bytes:
     return certificate_of(given, what).public_bytes()
 
 
-def _verified(key: bytes, path: list[bytes], fault: tuple[int, int] | None, verify: Verifier | None) -> list[Certificate]:
-    """The certificates of a path under a key, of which that is the first fault but those of signatures.
+def working_key(above: bytes, key: bytes) -> bytes:
+    """The DER of a public key as it is used under the one above it (RFC 5280 6.1.4 (d) to (f)): where the parameters of its algorithm are left out or NULL, and
+    the key above is of the same algorithm and has parameters, the key with these; else the key as it is. Down a path the key above is itself one as it is used.
+    `validate_path` hands its verifier such keys."""
+    return fill("x509_working_key", octets(above, "the public key above"), octets(key, "the public key"))
+
+
+def _verified(
+    key: bytes, path: list[bytes], fault: tuple[int, int] | None, verify: Verifier | None, below: Callable[[bytes, bytes], bytes]
+) -> tuple[list[Certificate], bytes]:
+    """The certificates of a path under a key, of which that is the first fault but those of signatures, and the last key; `below` says how a key is used under
+    another.
 
     The first fault is that of the lowest place; of one place that with the lowest number.
     """
@@ -77,10 +90,10 @@ def _verified(key: bytes, path: list[bytes], fault: tuple[int, int] | None, veri
         if int(told.unused_bits) != 0 or not verify(key, told.algorithm.of(data), told.signed_part.of(data), told.bits.of(data)):
             raise PathFault(place, SIGNATURE_FAULT)
         certificates.append(certificate)
-        key = certificate.public_key_bytes
+        key = below(key, certificate.public_key_bytes)
     if fault is not None:
         raise PathFault(*fault)
-    return certificates
+    return certificates, key
 
 
 def _verifies(key: bytes, algorithm: bytes, message: bytes, signature: bytes) -> bool:

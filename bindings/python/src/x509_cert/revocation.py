@@ -16,7 +16,7 @@ from .certificate import Certificate
 from .crl import CertificateRevocationList
 from .extensions import AuthorityKeyIdentifier, DuplicateExtension, ExtensionNotFound, ReasonFlags, SubjectKeyIdentifier, _reasons
 from .name import Name
-from .path import PathFault, Verifier, _verifies
+from .path import PathFault, Verifier, _verifies, working_key
 from .request import TrustAnchor
 from .validation import ValidatedPath, validate_path
 
@@ -61,7 +61,7 @@ class RevocationStatus:
 class SignedCrl:
     """A CRL, and its signer: the certificate, the trust anchor, or the name and the DER of the public key, under which it is to be verified. That the signer is
     one whose CRLs count is for the caller to know: it is the issuer of the certificate, or another whose path is valid, and `may_sign_crls` says True of it
-    (RFC 5280 6.3.3 (f))."""
+    (RFC 5280 6.3.3 (f)). The key of a certificate is taken as it stands there: one that has its parameters from a key above is given as `working_key` says."""
 
     crl: CertificateRevocationList
     signer: Anchor
@@ -189,7 +189,7 @@ class _Judge:
         used = tuple(at for at, (_, _, further) in enumerate(self.given) if all(it in trusted or it == chain for it in further))
         if (chain, used) not in self.found:
             given = [self.given[at] for at in used]
-            crls = [SignedCrl(self.crls[place], self.holder(signer)) for place, signer, _ in given]
+            crls = [SignedCrl(self.crls[place], self.signer(signer)) for place, signer, _ in given]
             status = _asked(chain[-1], crls, [True] * len(crls), self.settings)
             self.found[chain, used] = status if status.crl is None else dataclasses.replace(status, crl=given[status.crl][0])
         return self.found[chain, used]
@@ -202,6 +202,15 @@ class _Judge:
     def holder(self, chain: _Chain) -> Anchor:
         """Whose key it is: that of the last certificate; where there is none, the anchor's."""
         return chain[-1] if chain else self.anchor
+
+    def signer(self, chain: _Chain) -> Anchor:
+        """The same, with its key as it is used below the anchor (RFC 5280 6.1.4 (d) to (f))."""
+        if not chain:
+            return self.anchor
+        _, key = _name_and_key(self.anchor)
+        for it in chain:
+            key = working_key(key, it.public_key_bytes)
+        return chain[-1].subject, key
 
     def signers(self, crl: CertificateRevocationList) -> Iterator[_Chain]:
         """Those whose name is the issuer of the CRL, and whose key has the identifier that it says."""
@@ -223,7 +232,7 @@ class _Judge:
         return self.name.matches(crl.issuer)
 
     def is_signed(self, place: int, chain: _Chain) -> bool:
-        return _is_signed(SignedCrl(self.crls[place], self.holder(chain)), self.verify)
+        return _is_signed(SignedCrl(self.crls[place], self.signer(chain)), self.verify)
 
     def chain_to(self, certificate: Certificate) -> _Chain | None:
         """A valid path from the anchor to the certificate, if there is one."""

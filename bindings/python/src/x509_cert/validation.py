@@ -8,24 +8,35 @@ import datetime
 from typing import Iterable
 
 from ._der import SEQUENCE, element
-from ._given import der_of, instance, listed, octets, seconds
+from ._given import der_of, instance, listed, octets, seconds, some
 from ._library import FAULT, OK, PathAnswerView, PathSettings, X509Error, status_of
 from ._writing import identifier_of
 from .certificate import Certificate, certificate_of
+from .extensions import KeyUsage
 from .name import Name, name_of
-from .oid import ObjectIdentifier
-from .path import Verifier, _encodings, _verified
+from .oid import ExtendedKeyUsageOID, ObjectIdentifier
+from .path import Verifier, _encodings, _verified, working_key
 from .policies import CertificatePolicies
 from .request import TrustAnchor
 
 # the flags of settings
-_EXPLICIT_POLICY, _INHIBIT_POLICY_MAPPING, _INHIBIT_ANY_POLICY = 1, 2, 4
+_EXPLICIT_POLICY, _INHIBIT_POLICY_MAPPING, _INHIBIT_ANY_POLICY, _UNCHAINED, _VERSION_1 = 1, 2, 4, 8, 16
+# the purposes that settings have a bit for, in the order of these
+_PURPOSES = (
+    ExtendedKeyUsageOID.SERVER_AUTH,
+    ExtendedKeyUsageOID.CLIENT_AUTH,
+    ExtendedKeyUsageOID.CODE_SIGNING,
+    ExtendedKeyUsageOID.EMAIL_PROTECTION,
+    ExtendedKeyUsageOID.TIME_STAMPING,
+    ExtendedKeyUsageOID.OCSP_SIGNING,
+)
 
 
 @dataclasses.dataclass(frozen=True)
 class ValidatedPath:
-    """A path that is valid: its certificates, topmost first, and what it gives (RFC 5280 6.1.6), the subject and the DER of the public key of the last one, and
-    the policies under which it is valid, of those that the caller accepts. Any-policy may be one of them."""
+    """A path that is valid: its certificates, topmost first, and what it gives (RFC 5280 6.1.6), the subject and the DER of the public key of the last one,
+    with the parameters that it has from the keys above (`working_key`), and the policies under which it is valid, of those that the caller accepts. Any-policy
+    may be one of them."""
 
     certificates: tuple[Certificate, ...]
     subject: Name
@@ -44,36 +55,50 @@ def validate_path(
     require_explicit_policy: bool = False,
     inhibit_policy_mapping: bool = False,
     inhibit_any_policy: bool = False,
+    purposes: Iterable[ObjectIdentifier] | None = None,
+    is_chained: bool = True,
+    key_usage: KeyUsage | None = None,
+    allows_version_1: bool = False,
 ) -> ValidatedPath:
     """What a path gives that is valid at the moment under what is trusted, topmost certificate first; a PathFault else.
 
     The anchor is a certificate, for the paths that its name constraints, its path length and its policies allow, and of which nothing else is looked at; a
     TrustAnchor; or a name and the DER of a public key, for all paths. What an anchor says of policies is merged with what is asked here (RFC 5937 3.2); a
     PolicyConstraints or an InhibitAnyPolicy of its certificate sets the flag whatever its number. The certificates are a Certificate or its DER each.
-    `verify(public_key, algorithm, message, signature)` says whether the bits are a signature of the message: it is given the DER of the key and of the
-    algorithm. Where it isn't given, `cryptography` verifies. `name_constraints` are the initial permitted and excluded subtrees (RFC 5280 6.1.1 (h), (i)), as
-    the DER of a NameConstraints. `policies` are those that the caller accepts (6.1.1 (c)), any where they aren't given; the path is to be valid under one of
-    them at least where `require_explicit_policy` is true (6.1.1 (f)). The other two say that policies may not be mapped (6.1.1 (e)), and that any-policy in a
-    certificate counts for nothing (6.1.1 (g)).
+    `verify(public_key, algorithm, message, signature)` says whether the bits are a signature of the message: it is given the DER of the key, with the
+    parameters that it has from the keys above (`working_key`), and of the algorithm. Where it isn't given, `cryptography` verifies. `name_constraints` are the
+    initial permitted and excluded subtrees (RFC 5280 6.1.1 (h), (i)), as the DER of a NameConstraints. `policies` are those that the caller accepts (6.1.1
+    (c)), any where they aren't given; the path is to be valid under one of them at least where `require_explicit_policy` is true (6.1.1 (f)). The other two say
+    that policies may not be mapped (6.1.1 (e)), and that any-policy in a certificate counts for nothing (6.1.1 (g)).
+
+    `purposes` are those of which one is asked for, any of them (4.2.1.12): one purpose has to be allowed by the ExtendedKeyUsage of all certificates that have
+    one, or of the last alone where `is_chained` is false. At most one of them is another than those of RFC 5280. Where they aren't given no purpose is asked
+    for, and a critical ExtendedKeyUsage isn't processed, so it is a fault. `key_usage` are the usages that the last certificate has to have, where it has that
+    extension (4.2.1.3). Where `allows_version_1` is true, those of version 1 are authorities (6.1.4 (k)), which the caller then knows of those given.
 
     Beyond what `check_path` looks at, names are compared as they match (RFC 5280 7.1), name constraints hold, policies are followed, and each extension of a
-    type that is looked at is to be one that can be read. Revocation isn't looked at. An X509Error where the anchor or the name constraints can't be followed.
+    type that is looked at is to be one that can be read. Whether the last certificate is that of a host or a mailbox isn't asked, and revocation isn't looked
+    at: both are the caller's. An X509Error where the anchor or the name constraints can't be followed.
     """
     flags = (
         _flag(require_explicit_policy, _EXPLICIT_POLICY)
         | _flag(inhibit_policy_mapping, _INHIBIT_POLICY_MAPPING)
         | _flag(inhibit_any_policy, _INHIBIT_ANY_POLICY)
+        | _flag(not instance(is_chained, bool, "is_chained"), _UNCHAINED)
+        | _flag(allows_version_1, _VERSION_1)
     )
-    settings = PathSettings(seconds(moment, "the moment"), flags)
+    usage = 0 if key_usage is None else instance(key_usage, KeyUsage, "key_usage").bits
+    settings = PathSettings(seconds(moment, "the moment"), flags, usage)
+    _ask_for(settings, purposes)
     call, trusted, key = _trusted(anchor)
     given = _encodings(path)
     lens = (ctypes.c_size_t * len(given))(*map(len, given))
     words = (b"".join(given), lens, ctypes.c_size_t(len(given)), _constraints(name_constraints), _accepted(policies))
     answer, status, found = _asked(call, *trusted, *words, ctypes.byref(settings), ctypes.c_size_t(ctypes.sizeof(settings)))
     fault = (int(answer.place), int(answer.reason)) if status == FAULT else None
-    certificates = _verified(key, given, fault, verify)
+    certificates, key = _verified(key, given, fault, verify, working_key)
     valid = tuple(it.policy_identifier for it in CertificatePolicies.from_der(found))
-    return ValidatedPath(tuple(certificates), Name(answer.name.of(given[-1])), answer.key.of(given[-1]), valid)
+    return ValidatedPath(tuple(certificates), Name(answer.name.of(given[-1])), key, valid)
 
 
 def _asked(call: str, *words: object) -> tuple[PathAnswerView, int, bytes]:
@@ -90,7 +115,20 @@ def _asked(call: str, *words: object) -> tuple[PathAnswerView, int, bytes]:
 
 
 def _flag(given: bool, flag: int) -> int:
-    return flag if instance(given, bool, "a setting of policies") else 0
+    return flag if instance(given, bool, "a setting of a path") else 0
+
+
+def _ask_for(settings: PathSettings, purposes: Iterable[ObjectIdentifier] | None) -> None:
+    if purposes is None:
+        return
+    given = set(some(purposes, ObjectIdentifier, "purposes"))
+    settings.purposes = sum(1 << bit for bit, purpose in enumerate(_PURPOSES) if purpose in given)
+    others = [it.content for it in given.difference(_PURPOSES)]
+    if len(others) > 1 or any(len(it) > ctypes.sizeof(settings.purpose) for it in others):
+        raise ValueError("one purpose at most is another than those of RFC 5280, and of no more than 64 octets")
+    for other in others:
+        settings.purpose_len = len(other)
+        settings.purpose[: len(other)] = other
 
 
 def _accepted(given: Iterable[ObjectIdentifier] | None) -> bytes:

@@ -1,5 +1,6 @@
 //! Signed certificate timestamps, SCTs (RFC 6962).
 use super::{all, ExtensionValue};
+use crate::certificate::CertificateRef;
 use crate::error::Error;
 use crate::ffi;
 use crate::oid::{self, ObjectIdentifier};
@@ -42,6 +43,31 @@ impl<'a> SignedCertificateTimestamp<'a> {
             signature_algorithm: view.signature_algorithm,
             signature: view.signature.of(data)?,
         })
+    }
+
+    /// What the signature of a timestamp within the certificate is over (RFC 6962 3.2, `precert_entry`), by the octets of the timestamp and the certificate of
+    /// the issuer. It is to be verified with the log's key. Whether the issuer issued the certificate, and whether it has that timestamp, isn't looked at.
+    ///
+    /// # Errors
+    /// [`Error::Absent`] where the certificate has no list of timestamps, [`Error::Repeated`] where it has two or more; [`Error::Malformed`] where the octets
+    /// are no timestamp of version 1 with known algorithms; [`Error::Overlength`] where the signed part without timestamps has more than 16,777,215 octets;
+    /// [`Error::Memory`].
+    pub fn signed_data(
+        octets: &[u8],
+        certificate: CertificateRef<'_>,
+        issuer: CertificateRef<'_>,
+    ) -> Result<Vec<u8>, Error> {
+        ffi::timestamp_signed_data(octets, certificate.as_der(), issuer.as_der())
+    }
+
+    /// The same of a timestamp that came beside the certificate, in the TLS handshake or in an OCSP response (RFC 6962 3.3, `x509_entry`), by the octets of the
+    /// timestamp and those of the certificate, which aren't looked at.
+    ///
+    /// # Errors
+    /// [`Error::Malformed`] where the octets are no timestamp of version 1 with known algorithms; [`Error::Overlength`] where the certificate has none, or more
+    /// than 16,777,215; [`Error::Memory`].
+    pub fn signed_data_beside(octets: &[u8], certificate: &[u8]) -> Result<Vec<u8>, Error> {
+        ffi::timestamp_signed_data_beside(octets, certificate)
     }
 
     /// When the log had the certificate, where the system's times go so far.

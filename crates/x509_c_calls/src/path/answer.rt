@@ -56,6 +56,9 @@ fn number_of(reason: ValidationReason) -> u32
         ValidationReason::RepeatedPolicy => 14,
         ValidationReason::Policy => 15,
         ValidationReason::PolicyMapping => 16,
+        ValidationReason::Purpose => 17,
+        ValidationReason::Usage => 18,
+        ValidationReason::Version => 19,
     }
 }
 

@@ -1,15 +1,11 @@
 //! Policies, as C hands them over and as it takes them.
 
-ghost use Rattle.std.specs.Option.{option_map};
-ghost use Rattle.std.specs.Prelude.{◌≡◌, ◌<◌, ◌⊎◌, IfOk, MatchResult, Option, length, map};
+ghost use Rattle.std.specs.Prelude.{◌≡◌, ◌<◌, ◌⊎◌, IfOk, MatchResult, length, map};
 ghost use Rattle.x509_c_calls.specs.PathValidation.{AreNamed, IsRefusedUnlessEmpty, policies_octets, policy_octets, set_of};
 ghost use Rattle.x509_der.specs.Element.{element, limit};
 ghost use Rattle.x509_der.specs.Tag.{octet_of};
 ghost use Rattle.x509_der.specs.declared.error.ErrorKind.TheVariants.{Memory, Overlength};
 ghost use Rattle.x509_ext.specs.CertificatePolicies.{certificate_policies};
-ghost use Rattle.x509_ext.specs.declared.pkix.certificate_policies.CertificatePolicies as policies;
-ghost use Rattle.x509_validation.specs.Inputs.{user_set};
-ghost use Rattle.x509_validation.specs.Says.{identifiers};
 ghost use Rattle.x509_policy.specs.Views.{octets_of};
 
 use crate::read;
@@ -17,6 +13,9 @@ use std::alloc::{AllocError, Global};
 use x509_der::{Any, Encode, Error, ErrorKind, Grammar, Tag};
 use x509_ext::pkix::CertificatePolicies;
 use x509_ext::pkix::certpolicy::PolicyInformation;
+
+/// The content octets of any-policy (RFC 5280 4.2.1.4).
+const ANY_POLICY: [u8; 4] = [0x55, 0x1D, 0x20, 0x00];
 
 /// The policies, if there are any.
 pub(crate) fn policies_of(
@@ -49,27 +48,20 @@ fn identifiers_of<'a>(
     Ok(found)
 }
 
-/// The content octets of the OIDs of the policies, if there are any.
-pub(crate) fn named_set(
+/// The content octets of the OIDs of the policies that are accepted: any-policy where none are named.
+pub(crate) fn accepted_set(
     alloc: Global,
     named: &Option<CertificatePolicies>,
-) -> Result<Option<Vec<&[u8]>>, AllocError>
-    ensures { IfOk result (λ set. option_map (λ found. octets_of found.items) set ≡ option_map identifiers named.now) }
+) -> Result<Vec<&[u8]>, AllocError>
+    ensures { IfOk result (λ found. octets_of found.items ≡ set_of named.now) }
 {
     match named {
-        Some(policies) => Ok(Some(identifiers_of(alloc, policies.0.as_slice())?)),
-        None => Ok(None),
-    }
-}
-
-/// The policies that are accepted, lent.
-pub(crate) fn lent_set<'s, 'a>(set: &'s Option<Vec<&'a [u8]>>) -> Option<&'s [&'a [u8]]>
-    ensures { (named : Option policies.CertificatePolicies) → option_map (λ found. octets_of found.items) set.now ≡ option_map identifiers named
-        → user_set result ≡ set_of named }
-{
-    match set {
-        Some(set) => Some(set.as_slice()),
-        None => None,
+        Some(policies) => identifiers_of(alloc, policies.0.as_slice()),
+        None => {
+            let mut any = Vec::new(alloc);
+            any.push(ANY_POLICY.as_slice())?;
+            Ok(any)
+        }
     }
 }
 

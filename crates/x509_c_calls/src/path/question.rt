@@ -16,7 +16,10 @@ pub struct PathQuestion<'a> {
     /// where any.
     pub policies: &'a [u8],
 
-    /// The time, in seconds since 1970-01-01T00:00:00Z, and flags (RFC 5280 6.1.1 (e), (f), (g)): 1 where a policy is asked for, 2 where policies may not be
-    /// mapped, 4 where any-policy counts for nothing, added up. Each number stands in eight octets, the lowest first; behind both is any number of zeros.
+    /// The time, in seconds since 1970-01-01T00:00:00Z; flags (RFC 5280 6.1.1 (e), (f), (g)): 1 where a policy is asked for, 2 where policies may not be
+    /// mapped, 4 where any-policy counts for nothing, 8 where purposes are asked of the last certificate alone, 16 where those of version 1 are authorities,
+    /// added up; the bits that the last certificate's KeyUsage has to have; the known purposes of which one is asked for, a bit for each; and how many octets
+    /// another purpose has, and 64 places for them. Each number stands in eight octets, the lowest first; zeros may be left out behind the second, and stand
+    /// behind it all.
     pub settings: &'a [u8],
 }

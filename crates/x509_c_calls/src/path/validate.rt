@@ -1,7 +1,8 @@
 //! Validating a path apart from its signatures.
 
-ghost use Rattle.std.specs.Prelude.{◌≢◌, [], map, MatchOption, MatchResult, Option, ℕ};
-ghost use Rattle.x509_c_calls.specs.PathValidation.{AreConstraints, TellsValidation, Validates, ValidatesUnderAnchor, ValidatesUnderCertificate, ValidatesUnderKey};
+ghost use Rattle.std.specs.Prelude.{◌≡◌, ◌≢◌, ◌≤◌, ◌++◌, [], drop, length, map, take, IfOk, MatchResult, Option};
+ghost use Rattle.x509_c_calls.specs.PathValidation.{AreConstraints, TellsValidation, Validates, ValidatesUnderAnchor, ValidatesUnderCertificate, ValidatesUnderKey, known_purposes, named_purposes, own_purposes, set_of};
+ghost use Rattle.x509_policy.specs.Views.{octets_of};
 ghost use Rattle.x509_ext.specs.declared.pkix.name_constraints.NameConstraints as values;
 ghost use Rattle.x509_ext.specs.NameConstraints.{name_constraints};
 ghost use Rattle.x509_validation.specs.Inputs.{Inputs, LendsConstraints, LendsInputs, LendsTrust, Trust};
@@ -10,11 +11,11 @@ ghost use Rattle.x509_types.specs.Reencoding.{IsRefused};
 use crate::Status;
 use crate::path::answer::{PathAnswer, fault_at, subject_of};
 use crate::path::pieces::cut;
-use crate::path::policies::{encoded_policies, lent_set, named_set, policies_of};
+use crate::path::policies::{accepted_set, encoded_policies, policies_of};
 use crate::path::question::PathQuestion;
-use crate::path::settings::settings_of;
+use crate::path::settings::{own_purpose_of, purposes_of, settings_of, unless_empty};
 use crate::status::put;
-use std::alloc::Global;
+use std::alloc::{AllocError, Global};
 use x509_base::{Rfc5280, SubjectPublicKeyInfo};
 use x509_cert::Certificate;
 use x509_check::{CertificateRef, Check};
@@ -75,6 +76,31 @@ fn tell(
     }
 }
 
+/// The policies that are named, and the content octets of another purpose.
+#[derive(Drop)]
+struct Named {
+    policies: Option<CertificatePolicies>,
+    own: Vec<u8>,
+}
+
+/// The content octets of the OIDs of the policies that are accepted, behind them those of the purposes of which one is asked for,
+/// and how many policies these are.
+fn lists_of<'n>(
+    alloc: Global,
+    named: &'n Named,
+    number: u64,
+) -> Result<(Vec<&'n [u8]>, usize), AllocError>
+    ensures fits { IfOk result (λ found. found.1 ≤ length found.0.items) }
+    ensures policies { IfOk result (λ found. octets_of (take found.1 found.0.items) ≡ set_of named.now.policies) }
+    ensures purposes { IfOk result (λ found. octets_of (drop found.1 found.0.items) ≡ named_purposes number known_purposes ++ own_purposes named.now.own.items) }
+{
+    let mut lists = accepted_set(alloc, &named.policies)?;
+    let count = lists.len();
+    let mut purposes = purposes_of(alloc, number, named.own.as_slice())?;
+    lists.append(&mut purposes)?;
+    Ok((lists, count))
+}
+
 /// Validates a path under what is trusted.
 #[tactic(auto, unfolding(crate::specs::PathValidation::Validates))]
 fn validate_under(
@@ -91,6 +117,9 @@ fn validate_under(
     let Some(asked) = settings_of(question.settings) else {
         return Status::Refused(ErrorKind::Value);
     };
+    let Some(own) = own_purpose_of(question.settings) else {
+        return Status::Refused(ErrorKind::Value);
+    };
     let path = match cut(alloc, question.path, question.lens) {
         Ok(Some(path)) => path,
         Ok(None) => return Status::Refused(ErrorKind::Failed),
@@ -100,20 +129,29 @@ fn validate_under(
         Ok(name_constraints) => name_constraints,
         Err(e) => return Status::Refused(e),
     };
-    let named = match policies_of(alloc, question.policies) {
-        Ok(named) => named,
+    let policies = match policies_of(alloc, question.policies) {
+        Ok(policies) => policies,
         Err(e) => return Status::Refused(e),
     };
-    let Ok(set) = named_set(alloc, &named) else {
+    let Ok(own) = Vec::from_slice(alloc, own) else {
         return Status::Refused(ErrorKind::Memory);
     };
+    let named = Named { policies, own };
+    let Ok((lists, count)) = lists_of(alloc, &named, asked.purposes) else {
+        return Status::Refused(ErrorKind::Memory);
+    };
+    let (set, purposes) = lists.as_slice().split_at(count);
     let settings = PathSettings {
         moment: asked.moment,
         name_constraints,
-        user_initial_policy_set: lent_set(&set),
+        user_initial_policy_set: Some(set),
         initial_policy_mapping_inhibit: asked.inhibit_policy_mapping,
         initial_explicit_policy: asked.explicit_policy,
         initial_any_policy_inhibit: asked.inhibit_any_policy,
+        purposes: unless_empty(purposes),
+        is_chained: !asked.is_unchained,
+        key_usage: asked.key_usage,
+        allows_version_1: asked.allows_version_1,
     };
     tell(alloc, trusted, path.as_slice(), &settings, room, answer)
 }
@@ -123,10 +161,10 @@ fn validate_under(
 ///
 /// # Errors
 ///
-/// `Value` where the settings are none, where the time is after the year 9999, or where name constraints of the question or of
-/// the anchor can't be used; `Failed` where the lengths don't add up, or an extension of the anchor is repeated; the errors
-/// of decoding the anchor's certificate, its extensions that are followed, the name constraints and the policies; where several
-/// of these are bad, any of them. Else [`Status::Absent`] where there is no certificate, and [`Status::Faulty`] where one has a
+/// `Value` where the settings are none, or have another flag, bit or purpose, where the time is after the year 9999, or where name constraints of the question or of
+/// the anchor can't be used; `Failed` where the lengths don't add up, the subject of the anchor is empty, or an extension of it is
+/// repeated; the errors of decoding the anchor's certificate, its extensions that are followed, the name constraints and the
+/// policies; where several of these are bad, any of them, but those of [`Trusted::from_certificate`] in their order. Else [`Status::Absent`] where there is no certificate, and [`Status::Faulty`] where one has a
 /// fault, the first of which is filled in; `Overlength` where the path is valid, and the encoding of its policies would be too
 /// long. `Memory` when out of memory. `answer` is unchanged except on [`Status::Faulty`], `room` on each.
 #[tactic(auto, unfolding(crate::specs::PathValidation::ValidatesUnderCertificate))]

@@ -60,7 +60,7 @@ fn view_of(timestamp: &SignedCertificateTimestamp) -> TimestampView
 }
 
 /// An error of the TLS encoding as one of DER.
-fn refusal_of(e: TlsError) -> ErrorKind
+pub(crate) fn refusal_of(e: TlsError) -> ErrorKind
     ensures { result ≡ refusal_of e }
 {
     match e {

@@ -5,7 +5,7 @@ ghost use Rattle.x509_lint_web.specs.Authority as grammar;
 ghost use Rattle.x509_lint_web.specs.Seen as seen;
 ghost use Rattle.x509_lint_web.specs.Sentence.{IsTold};
 
-use crate::entry::{WebEntry, from_day, must};
+use crate::entry::{WebEntry, entries};
 use crate::names::has_attribute;
 use crate::scope::is_self_issued;
 use crate::seen::Part;
@@ -16,7 +16,7 @@ use x509_cert::certificate::CertificateInner;
 use x509_der::AssociatedOid;
 use x509_ext::pkix::{CertificatePolicies, CrlDistributionPoints, ExtendedKeyUsage, KeyUsage};
 use x509_lint::extensions::{extensions_of, has, has_uncritical};
-use x509_lint::{passes, told};
+use x509_lint::passes;
 use x509_name::attr::attribute_types::{COMMON_NAME, COUNTRY_NAME, ORGANIZATION_NAME};
 
 /// Rules on certificates of authorities that may stand above TLS servers (TLS BR 7.1.2.10, 7.1.2.11.2).
@@ -52,23 +52,26 @@ pub enum WebAuthorityRule {
     SubordinateWithoutCrlPoints,
 }
 
+/// How the rules are told, in the order of their variants.
+static ENTRIES: [WebEntry; 9] = entries! {
+    CaKeyUsageNotCritical => must("ca_key_usage_not_critical", "7.1.2.10.7", None, "tbsCertificate.extensions.keyUsage"),
+    CaWithoutCrlSign => must("ca_without_crl_sign", "7.1.2.10.7", None, "tbsCertificate.extensions.keyUsage"),
+    CaKeyUsageOther => must("ca_key_usage_other", "7.1.2.10.7", from_day(2023, 9, 15), "tbsCertificate.extensions.keyUsage"),
+    CaWithoutCommonName => must("ca_without_common_name", "7.1.2.10.2", from_day(2023, 9, 15), "tbsCertificate.subject"),
+    CaWithoutOrganization => must("ca_without_organization", "7.1.2.10.2", None, "tbsCertificate.subject"),
+    CaWithoutCountry => must("ca_without_country", "7.1.2.10.2", None, "tbsCertificate.subject"),
+    CaExtendedKeyUsageForbidden =>
+        must("ca_extended_key_usage_forbidden", "7.1.2.10.6", from_day(2023, 9, 15), "tbsCertificate.extensions.extKeyUsage"),
+    SubordinateWithoutPolicies => must("subordinate_without_policies", "7.1.2.10.5", None, "tbsCertificate.extensions.certificatePolicies"),
+    SubordinateWithoutCrlPoints => must("subordinate_without_crl_points", "7.1.2.11.2", None, "tbsCertificate.extensions.cRLDistributionPoints"),
+};
+
 impl WebAuthorityRule {
     /// How the rule is told, and since when it is in force.
     pub fn entry(self) -> WebEntry
         ensures { IsTold result (grammar.authority_sentence self) }
     {
-        told! { self: WebAuthorityRule;
-            CaKeyUsageNotCritical => must("ca_key_usage_not_critical", "7.1.2.10.7", None, "tbsCertificate.extensions.keyUsage"),
-            CaWithoutCrlSign => must("ca_without_crl_sign", "7.1.2.10.7", None, "tbsCertificate.extensions.keyUsage"),
-            CaKeyUsageOther => must("ca_key_usage_other", "7.1.2.10.7", from_day(2023, 9, 15), "tbsCertificate.extensions.keyUsage"),
-            CaWithoutCommonName => must("ca_without_common_name", "7.1.2.10.2", from_day(2023, 9, 15), "tbsCertificate.subject"),
-            CaWithoutOrganization => must("ca_without_organization", "7.1.2.10.2", None, "tbsCertificate.subject"),
-            CaWithoutCountry => must("ca_without_country", "7.1.2.10.2", None, "tbsCertificate.subject"),
-            CaExtendedKeyUsageForbidden =>
-                must("ca_extended_key_usage_forbidden", "7.1.2.10.6", from_day(2023, 9, 15), "tbsCertificate.extensions.extKeyUsage"),
-            SubordinateWithoutPolicies => must("subordinate_without_policies", "7.1.2.10.5", None, "tbsCertificate.extensions.certificatePolicies"),
-            SubordinateWithoutCrlPoints => must("subordinate_without_crl_points", "7.1.2.11.2", None, "tbsCertificate.extensions.cRLDistributionPoints"),
-        }
+        ENTRIES[self as usize]
     }
 
     /// Of which part of a certificate the rule speaks.

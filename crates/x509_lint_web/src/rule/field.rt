@@ -7,7 +7,7 @@ ghost use Rattle.x509_lint_web.specs.Seen as seen;
 ghost use Rattle.x509_lint_web.specs.Sentence.{IsTold};
 
 use crate::algorithms::{are_null, is_ecdsa, is_of_sha1, is_rsa_pkcs1, is_rsa_pss};
-use crate::entry::{WebEntry, from_day, must};
+use crate::entry::{WebEntry, entries};
 use crate::places::{has_issuer, is_partial_among, is_without_http_among};
 use crate::scope::{is_authority, is_self_issued};
 use crate::seen::Part;
@@ -18,7 +18,7 @@ use x509_cert::certificate::CertificateInner;
 use x509_der::{AssociatedOid, ObjectIdentifier};
 use x509_ext::pkix::{AuthorityKeyIdentifier, CrlDistributionPoints};
 use x509_lint::extensions::{extensions_of, has_critical};
-use x509_lint::{passes, told};
+use x509_lint::passes;
 
 /// Rules on version, signature, key identifier and CRL distribution points of any certificate (TLS BR 7.1.1, 7.1.3.2, 7.1.2.11).
 #[derive(Clone, Copy, Debug, PartialEq, Eq)]
@@ -54,25 +54,28 @@ pub enum WebFieldRule {
     CrlDistributionPointPartial,
 }
 
+/// How the rules are told, in the order of their variants.
+static ENTRIES: [WebEntry; 9] = entries! {
+    VersionNotV3 => must("version_not_v3", "7.1.1", None, "tbsCertificate.version"),
+    SignatureOfSha1 => must("signature_of_sha1", "7.1.3.2", from_day(2016, 1, 1), "signatureAlgorithm"),
+    SignatureAlgorithmOther => must("signature_algorithm_other", "7.1.3.2", from_day(2020, 8, 20), "signatureAlgorithm"),
+    RsaSignatureParametersNotNull => must("rsa_signature_parameters_not_null", "7.1.3.2.1", from_day(2020, 8, 20), "signatureAlgorithm"),
+    EcdsaSignatureParametersPresent => must("ecdsa_signature_parameters_present", "7.1.3.2.2", from_day(2020, 8, 20), "signatureAlgorithm"),
+    AuthorityCertIssuerPresent =>
+        must("authority_cert_issuer_present", "7.1.2.11.1", from_day(2023, 9, 15), "tbsCertificate.extensions.authorityKeyIdentifier"),
+    CrlDistributionPointsCritical => must("crl_distribution_points_critical", "7.1.2.11.2", None, "tbsCertificate.extensions.cRLDistributionPoints"),
+    CrlDistributionPointNotHttp =>
+        must("crl_distribution_point_not_http", "7.1.2.11.2", from_day(2023, 9, 15), "tbsCertificate.extensions.cRLDistributionPoints"),
+    CrlDistributionPointPartial =>
+        must("crl_distribution_point_partial", "7.1.2.11.2", from_day(2023, 9, 15), "tbsCertificate.extensions.cRLDistributionPoints"),
+};
+
 impl WebFieldRule {
     /// How the rule is told, and since when it is in force.
     pub fn entry(self) -> WebEntry
         ensures { IsTold result (grammar.field_sentence self) }
     {
-        told! { self: WebFieldRule;
-            VersionNotV3 => must("version_not_v3", "7.1.1", None, "tbsCertificate.version"),
-            SignatureOfSha1 => must("signature_of_sha1", "7.1.3.2", from_day(2016, 1, 1), "signatureAlgorithm"),
-            SignatureAlgorithmOther => must("signature_algorithm_other", "7.1.3.2", from_day(2020, 8, 20), "signatureAlgorithm"),
-            RsaSignatureParametersNotNull => must("rsa_signature_parameters_not_null", "7.1.3.2.1", from_day(2020, 8, 20), "signatureAlgorithm"),
-            EcdsaSignatureParametersPresent => must("ecdsa_signature_parameters_present", "7.1.3.2.2", from_day(2020, 8, 20), "signatureAlgorithm"),
-            AuthorityCertIssuerPresent =>
-                must("authority_cert_issuer_present", "7.1.2.11.1", from_day(2023, 9, 15), "tbsCertificate.extensions.authorityKeyIdentifier"),
-            CrlDistributionPointsCritical => must("crl_distribution_points_critical", "7.1.2.11.2", None, "tbsCertificate.extensions.cRLDistributionPoints"),
-            CrlDistributionPointNotHttp =>
-                must("crl_distribution_point_not_http", "7.1.2.11.2", from_day(2023, 9, 15), "tbsCertificate.extensions.cRLDistributionPoints"),
-            CrlDistributionPointPartial =>
-                must("crl_distribution_point_partial", "7.1.2.11.2", from_day(2023, 9, 15), "tbsCertificate.extensions.cRLDistributionPoints"),
-        }
+        ENTRIES[self as usize]
     }
 
     /// Of which part of a certificate the rule speaks.

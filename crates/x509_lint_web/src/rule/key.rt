@@ -6,7 +6,7 @@ ghost use Rattle.x509_lint_web.specs.Seen as seen;
 ghost use Rattle.x509_lint_web.specs.Sentence.{IsTold};
 
 use crate::algorithms::{are_curve, are_null, is_ec, is_rsa};
-use crate::entry::{WebEntry, from_day, must, should};
+use crate::entry::{WebEntry, entries};
 use crate::numbers::{
     has_even_modulus, has_no_exponent, has_outside_exponent, has_short_modulus, has_uneven_modulus,
 };
@@ -14,7 +14,6 @@ use crate::seen::Part;
 use crate::values::WebValues;
 use x509_base::Raw;
 use x509_cert::certificate::CertificateInner;
-use x509_lint::told;
 
 /// Rules on public keys (TLS BR 6.1.5, 6.1.6, 7.1.3.1).
 #[derive(Clone, Copy, Debug, PartialEq, Eq)]
@@ -44,21 +43,24 @@ pub enum WebKeyRule {
     RsaExponentOutside,
 }
 
+/// How the rules are told, in the order of their variants.
+static ENTRIES: [WebEntry; 8] = entries! {
+    KeyAlgorithmOther => must("key_algorithm_other", "7.1.3.1", from_day(2020, 8, 20), "tbsCertificate.subjectPublicKeyInfo"),
+    RsaKeyParametersNotNull => must("rsa_key_parameters_not_null", "7.1.3.1.1", from_day(2020, 8, 20), "tbsCertificate.subjectPublicKeyInfo"),
+    EcCurveOther => must("ec_curve_other", "6.1.5", None, "tbsCertificate.subjectPublicKeyInfo"),
+    RsaModulusShort => must("rsa_modulus_short", "6.1.5", from_day(2014, 1, 1), "tbsCertificate.subjectPublicKeyInfo"),
+    RsaModulusUneven => must("rsa_modulus_uneven", "6.1.5", from_day(2020, 8, 20), "tbsCertificate.subjectPublicKeyInfo"),
+    RsaModulusEven => should("rsa_modulus_even", "6.1.6", from_day(2013, 1, 1), "tbsCertificate.subjectPublicKeyInfo"),
+    RsaExponentInvalid => must("rsa_exponent_invalid", "6.1.6", from_day(2013, 1, 1), "tbsCertificate.subjectPublicKeyInfo"),
+    RsaExponentOutside => should("rsa_exponent_outside", "6.1.6", from_day(2013, 1, 1), "tbsCertificate.subjectPublicKeyInfo"),
+};
+
 impl WebKeyRule {
     /// How the rule is told, and since when it is in force.
     pub fn entry(self) -> WebEntry
         ensures { IsTold result (grammar.key_sentence self) }
     {
-        told! { self: WebKeyRule;
-            KeyAlgorithmOther => must("key_algorithm_other", "7.1.3.1", from_day(2020, 8, 20), "tbsCertificate.subjectPublicKeyInfo"),
-            RsaKeyParametersNotNull => must("rsa_key_parameters_not_null", "7.1.3.1.1", from_day(2020, 8, 20), "tbsCertificate.subjectPublicKeyInfo"),
-            EcCurveOther => must("ec_curve_other", "6.1.5", None, "tbsCertificate.subjectPublicKeyInfo"),
-            RsaModulusShort => must("rsa_modulus_short", "6.1.5", from_day(2014, 1, 1), "tbsCertificate.subjectPublicKeyInfo"),
-            RsaModulusUneven => must("rsa_modulus_uneven", "6.1.5", from_day(2020, 8, 20), "tbsCertificate.subjectPublicKeyInfo"),
-            RsaModulusEven => should("rsa_modulus_even", "6.1.6", from_day(2013, 1, 1), "tbsCertificate.subjectPublicKeyInfo"),
-            RsaExponentInvalid => must("rsa_exponent_invalid", "6.1.6", from_day(2013, 1, 1), "tbsCertificate.subjectPublicKeyInfo"),
-            RsaExponentOutside => should("rsa_exponent_outside", "6.1.6", from_day(2013, 1, 1), "tbsCertificate.subjectPublicKeyInfo"),
-        }
+        ENTRIES[self as usize]
     }
 
     /// Of which part of a certificate the rule speaks.

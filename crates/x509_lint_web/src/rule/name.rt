@@ -1,14 +1,13 @@
-//! Rules on the SAN and the subject of certificates of TLS servers (TLS BR 7.1.2.7.12, 7.1.4.3).
+//! Rules on the SAN and the subject of certificates of TLS servers (TLS BR 7.1.2.7, 7.1.2.7.12, 7.1.4.3).
 
 ghost use Rattle.std.specs.Prelude.{◌≡◌};
 ghost use Rattle.x509_lint_web.specs.Name as grammar;
 ghost use Rattle.x509_lint_web.specs.Seen as seen;
 ghost use Rattle.x509_lint_web.specs.Sentence.{IsTold};
 
-use crate::entry::{WebEntry, from_day, must, should};
+use crate::entry::{WebEntry, entries};
 use crate::names::{
-    NameFault, has_attribute, has_common_names, has_name, has_stray_name, is_empty_name,
-    is_host_among,
+    NameFault, has_attribute, has_common_names, has_name, is_empty_name, is_host_among,
 };
 use crate::seen::Part;
 use crate::values::WebValues;
@@ -17,10 +16,10 @@ use x509_cert::certificate::CertificateInner;
 use x509_der::AssociatedOid;
 use x509_ext::pkix::SubjectAltName;
 use x509_lint::extensions::{extensions_of, has, has_critical};
-use x509_lint::{passes, told};
+use x509_lint::passes;
 use x509_name::attr::attribute_types::{COMMON_NAME, ORGANIZATIONAL_UNIT_NAME};
 
-/// Rules on the SAN and the subject of certificates of TLS servers (TLS BR 7.1.2.7.12, 7.1.4.3).
+/// Rules on the SAN and the subject of certificates of TLS servers (TLS BR 7.1.2.7, 7.1.2.7.12, 7.1.4.3).
 #[derive(Clone, Copy, Debug, PartialEq, Eq)]
 pub enum WebNameRule {
     /// There is no SAN (TLS BR 7.1.2.7.12, error).
@@ -54,41 +53,49 @@ pub enum WebNameRule {
     /// An iPAddress is a reserved one (TLS BR 7.1.2.7.12, error, from 2015-11-01).
     AddressReserved,
 
-    /// The subject has a commonName (TLS BR 7.1.2.7.2, warning, from 2023-09-15).
+    /// The subject has a commonName (TLS BR 7.1.2.7, warning, from 2023-09-15).
     CommonNamePresent,
 
-    /// The subject has a commonName that is no dNSName of the SAN, which has no iPAddress (TLS BR 7.1.4.3, error, from
-    /// 2021-08-25).
+    /// The subject has a commonName that is no name of the SAN, however that is written: a dNSName in any case or in
+    /// Unicode, an IPv6 address in any text (TLS BR 7.1.4.3, error, from 2012-07-01).
     CommonNameNotInAltName,
 
-    /// The subject has an organizationalUnitName (TLS BR 7.1.2.7.4, error, from 2022-09-01).
+    /// The subject has a commonName that is a name of the SAN, and is written otherwise than as the dNSName octet for
+    /// octet, or as RFC 3986 3.2.2 or RFC 5952 4 write the iPAddress (TLS BR 7.1.4.3, error, from 2021-08-25).
+    CommonNameNotAsInAltName,
+
+    /// The subject has an organizationalUnitName (TLS BR 7.1.2.7, error, from 2022-09-01).
     OrganizationalUnitPresent,
 
     /// The subject has two commonNames or more (TLS BR 7.1.4.3, error, from 2021-08-25).
     CommonNameRepeated,
 }
 
+/// How the rules are told, in the order of their variants.
+static ENTRIES: [WebEntry; 15] = entries! {
+    SubjectAltNameAbsent => must("subject_alt_name_absent", "7.1.2.7.12", None, "tbsCertificate.extensions.subjectAltName"),
+    SubjectAltNameWithoutHost => must("subject_alt_name_without_host", "7.1.2.7.12", None, "tbsCertificate.extensions.subjectAltName"),
+    SubjectAltNameOther => must("subject_alt_name_other", "7.1.2.7.12", None, "tbsCertificate.extensions.subjectAltName"),
+    SubjectAltNameCritical => must("subject_alt_name_critical", "7.1.2.7.12", from_day(2023, 9, 15), "tbsCertificate.extensions.subjectAltName"),
+    DnsNameUnderscore => must("dns_name_underscore", "7.1.2.7.12", from_day(2019, 4, 1), "tbsCertificate.extensions.subjectAltName"),
+    DnsNameReservedLabel => must("dns_name_reserved_label", "7.1.2.7.12", from_day(2021, 10, 1), "tbsCertificate.extensions.subjectAltName"),
+    DnsNameWildcard => must("dns_name_wildcard", "7.1.2.7.12", None, "tbsCertificate.extensions.subjectAltName"),
+    DnsNameOneLabel => must("dns_name_one_label", "7.1.2.7.12", from_day(2015, 11, 1), "tbsCertificate.extensions.subjectAltName"),
+    DnsNameInternal => must("dns_name_internal", "7.1.2.7.12", from_day(2015, 11, 1), "tbsCertificate.extensions.subjectAltName"),
+    AddressReserved => must("address_reserved", "7.1.2.7.12", from_day(2015, 11, 1), "tbsCertificate.extensions.subjectAltName"),
+    CommonNamePresent => should("common_name_present", "7.1.2.7", from_day(2023, 9, 15), "tbsCertificate.subject"),
+    CommonNameNotInAltName => must("common_name_not_in_alt_name", "7.1.4.3", from_day(2012, 7, 1), "tbsCertificate.subject"),
+    CommonNameNotAsInAltName => must("common_name_not_as_in_alt_name", "7.1.4.3", from_day(2021, 8, 25), "tbsCertificate.subject"),
+    OrganizationalUnitPresent => must("organizational_unit_present", "7.1.2.7", from_day(2022, 9, 1), "tbsCertificate.subject"),
+    CommonNameRepeated => must("common_name_repeated", "7.1.4.3", from_day(2021, 8, 25), "tbsCertificate.subject"),
+};
+
 impl WebNameRule {
     /// How the rule is told, and since when it is in force.
     pub fn entry(self) -> WebEntry
         ensures { IsTold result (grammar.name_sentence self) }
     {
-        told! { self: WebNameRule;
-            SubjectAltNameAbsent => must("subject_alt_name_absent", "7.1.2.7.12", None, "tbsCertificate.extensions.subjectAltName"),
-            SubjectAltNameWithoutHost => must("subject_alt_name_without_host", "7.1.2.7.12", None, "tbsCertificate.extensions.subjectAltName"),
-            SubjectAltNameOther => must("subject_alt_name_other", "7.1.2.7.12", None, "tbsCertificate.extensions.subjectAltName"),
-            SubjectAltNameCritical => must("subject_alt_name_critical", "7.1.2.7.12", from_day(2023, 9, 15), "tbsCertificate.extensions.subjectAltName"),
-            DnsNameUnderscore => must("dns_name_underscore", "7.1.2.7.12", from_day(2019, 4, 1), "tbsCertificate.extensions.subjectAltName"),
-            DnsNameReservedLabel => must("dns_name_reserved_label", "7.1.2.7.12", from_day(2021, 10, 1), "tbsCertificate.extensions.subjectAltName"),
-            DnsNameWildcard => must("dns_name_wildcard", "7.1.2.7.12", None, "tbsCertificate.extensions.subjectAltName"),
-            DnsNameOneLabel => must("dns_name_one_label", "7.1.2.7.12", from_day(2015, 11, 1), "tbsCertificate.extensions.subjectAltName"),
-            DnsNameInternal => must("dns_name_internal", "7.1.2.7.12", from_day(2015, 11, 1), "tbsCertificate.extensions.subjectAltName"),
-            AddressReserved => must("address_reserved", "7.1.2.7.12", from_day(2015, 11, 1), "tbsCertificate.extensions.subjectAltName"),
-            CommonNamePresent => should("common_name_present", "7.1.2.7.2", from_day(2023, 9, 15), "tbsCertificate.subject"),
-            CommonNameNotInAltName => must("common_name_not_in_alt_name", "7.1.4.3", from_day(2021, 8, 25), "tbsCertificate.subject"),
-            OrganizationalUnitPresent => must("organizational_unit_present", "7.1.2.7.4", from_day(2022, 9, 1), "tbsCertificate.subject"),
-            CommonNameRepeated => must("common_name_repeated", "7.1.4.3", from_day(2021, 8, 25), "tbsCertificate.subject"),
-        }
+        ENTRIES[self as usize]
     }
 
     /// Of which part of a certificate the rule speaks.
@@ -105,6 +112,7 @@ impl WebNameRule {
             WebNameRule::AddressReserved => Part::Name(NameFault::Reserved),
             WebNameRule::CommonNamePresent
             | WebNameRule::CommonNameNotInAltName
+            | WebNameRule::CommonNameNotAsInAltName
             | WebNameRule::CommonNameRepeated
             | WebNameRule::OrganizationalUnitPresent => Part::Subject,
             _ => Part::Extension(SubjectAltName::OID),
@@ -140,10 +148,8 @@ impl WebNameRule {
             WebNameRule::DnsNameInternal => has_name(NameFault::Internal, &values.subject_alt_name),
             WebNameRule::AddressReserved => has_name(NameFault::Reserved, &values.subject_alt_name),
             WebNameRule::CommonNamePresent => has_attribute(COMMON_NAME, subject),
-            WebNameRule::CommonNameNotInAltName => has_stray_name(
-                &values.subject_alt_name,
-                subject,
-            ),
+            WebNameRule::CommonNameNotInAltName => values.has_stray_name,
+            WebNameRule::CommonNameNotAsInAltName => values.has_rewritten_name,
             WebNameRule::OrganizationalUnitPresent => has_attribute(
                 ORGANIZATIONAL_UNIT_NAME,
                 subject,

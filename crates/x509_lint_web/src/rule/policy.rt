@@ -5,7 +5,7 @@ ghost use Rattle.x509_lint_web.specs.Policy as grammar;
 ghost use Rattle.x509_lint_web.specs.Seen as seen;
 ghost use Rattle.x509_lint_web.specs.Sentence.{IsTold};
 
-use crate::entry::{WebEntry, from_day, must, should};
+use crate::entry::{WebEntry, entries};
 use crate::names::{has_attribute, has_other_attribute};
 use crate::places::{have_other_location, is_other_method_among};
 use crate::policies::{
@@ -19,7 +19,7 @@ use x509_cert::certificate::CertificateInner;
 use x509_der::AssociatedOid;
 use x509_ext::pkix::{AuthorityInfoAccessSyntax, CertificatePolicies};
 use x509_lint::extensions::{extensions_of, has, has_critical};
-use x509_lint::{passes, told};
+use x509_lint::passes;
 use x509_name::attr::attribute_types::{COUNTRY_NAME, ORGANIZATION_NAME};
 
 /// Rules on certificate policies and authority information access of certificates of TLS servers (TLS BR 7.1.2.7.2, 7.1.2.7.4, 7.1.2.7.7, 7.1.2.7.9).
@@ -53,7 +53,7 @@ pub enum WebPolicyRule {
     /// The organization is validated, by the policy, and the subject has no countryName (TLS BR 7.1.2.7.4, error).
     OrganizationValidatedWithoutCountry,
 
-    /// There is no authority information access (TLS BR 7.1.2.7.7, error, from 2023-09-15).
+    /// There is no authority information access (TLS BR 7.1.2.7.7, error, from 2012-07-01).
     AuthorityInfoAccessAbsent,
 
     /// An access method is neither OCSP nor caIssuers (TLS BR 7.1.2.7.7, error, from 2023-09-15).
@@ -63,27 +63,30 @@ pub enum WebPolicyRule {
     AccessLocationNotHttp,
 }
 
+/// How the rules are told, in the order of their variants.
+static ENTRIES: [WebEntry; 12] = entries! {
+    CertificatePoliciesAbsent => must("certificate_policies_absent", "7.1.2.7.9", None, "tbsCertificate.extensions.certificatePolicies"),
+    CertificatePoliciesCritical =>
+        must("certificate_policies_critical", "7.1.2.7.6", from_day(2023, 9, 15), "tbsCertificate.extensions.certificatePolicies"),
+    ReservedPolicyAbsent => must("reserved_policy_absent", "7.1.2.7.9", from_day(2020, 9, 30), "tbsCertificate.extensions.certificatePolicies"),
+    AnyPolicyPresent => must("any_policy_present", "7.1.2.7.9", from_day(2023, 9, 15), "tbsCertificate.extensions.certificatePolicies"),
+    PolicyQualifiersPresent => should("policy_qualifiers_present", "7.1.2.7.9", from_day(2023, 9, 15), "tbsCertificate.extensions.certificatePolicies"),
+    PolicyQualifierOther => must("policy_qualifier_other", "7.1.2.7.9", from_day(2023, 9, 15), "tbsCertificate.extensions.certificatePolicies"),
+    DomainValidatedAttribute => must("domain_validated_attribute", "7.1.2.7.2", from_day(2023, 9, 15), "tbsCertificate.subject"),
+    OrganizationValidatedWithoutOrganization => must("organization_validated_without_organization", "7.1.2.7.4", None, "tbsCertificate.subject"),
+    OrganizationValidatedWithoutCountry => must("organization_validated_without_country", "7.1.2.7.4", None, "tbsCertificate.subject"),
+    AuthorityInfoAccessAbsent =>
+        must("authority_info_access_absent", "7.1.2.7.7", from_day(2012, 7, 1), "tbsCertificate.extensions.authorityInfoAccess"),
+    AccessMethodOther => must("access_method_other", "7.1.2.7.7", from_day(2023, 9, 15), "tbsCertificate.extensions.authorityInfoAccess"),
+    AccessLocationNotHttp => must("access_location_not_http", "7.1.2.7.7", from_day(2023, 9, 15), "tbsCertificate.extensions.authorityInfoAccess"),
+};
+
 impl WebPolicyRule {
     /// How the rule is told, and since when it is in force.
     pub fn entry(self) -> WebEntry
         ensures { IsTold result (grammar.policy_sentence self) }
     {
-        told! { self: WebPolicyRule;
-            CertificatePoliciesAbsent => must("certificate_policies_absent", "7.1.2.7.9", None, "tbsCertificate.extensions.certificatePolicies"),
-            CertificatePoliciesCritical =>
-                must("certificate_policies_critical", "7.1.2.7.6", from_day(2023, 9, 15), "tbsCertificate.extensions.certificatePolicies"),
-            ReservedPolicyAbsent => must("reserved_policy_absent", "7.1.2.7.9", from_day(2020, 9, 30), "tbsCertificate.extensions.certificatePolicies"),
-            AnyPolicyPresent => must("any_policy_present", "7.1.2.7.9", from_day(2023, 9, 15), "tbsCertificate.extensions.certificatePolicies"),
-            PolicyQualifiersPresent => should("policy_qualifiers_present", "7.1.2.7.9", from_day(2023, 9, 15), "tbsCertificate.extensions.certificatePolicies"),
-            PolicyQualifierOther => must("policy_qualifier_other", "7.1.2.7.9", from_day(2023, 9, 15), "tbsCertificate.extensions.certificatePolicies"),
-            DomainValidatedAttribute => must("domain_validated_attribute", "7.1.2.7.2", from_day(2023, 9, 15), "tbsCertificate.subject"),
-            OrganizationValidatedWithoutOrganization => must("organization_validated_without_organization", "7.1.2.7.4", None, "tbsCertificate.subject"),
-            OrganizationValidatedWithoutCountry => must("organization_validated_without_country", "7.1.2.7.4", None, "tbsCertificate.subject"),
-            AuthorityInfoAccessAbsent =>
-                must("authority_info_access_absent", "7.1.2.7.7", from_day(2023, 9, 15), "tbsCertificate.extensions.authorityInfoAccess"),
-            AccessMethodOther => must("access_method_other", "7.1.2.7.7", from_day(2023, 9, 15), "tbsCertificate.extensions.authorityInfoAccess"),
-            AccessLocationNotHttp => must("access_location_not_http", "7.1.2.7.7", from_day(2023, 9, 15), "tbsCertificate.extensions.authorityInfoAccess"),
-        }
+        ENTRIES[self as usize]
     }
 
     /// Of which part of a certificate the rule speaks.

@@ -6,7 +6,7 @@ ghost use Rattle.x509_lint_web.specs.Seen as seen;
 ghost use Rattle.x509_lint_web.specs.Sentence.{IsTold};
 
 use crate::algorithms::{is_ec, is_rsa};
-use crate::entry::{WebEntry, from_day, must, should};
+use crate::entry::{WebEntry, entries};
 use crate::seen::Part;
 use crate::usages::{has_bit_not_of_ec, has_forbidden_purpose, is_not_of_servers, is_other_among};
 use crate::values::WebValues;
@@ -15,7 +15,7 @@ use x509_cert::certificate::CertificateInner;
 use x509_der::AssociatedOid;
 use x509_ext::pkix::{BasicConstraints, ExtendedKeyUsage, KeyUsage, SubjectKeyIdentifier};
 use x509_lint::extensions::{extensions_of, has, has_critical, has_uncritical};
-use x509_lint::{passes, told};
+use x509_lint::passes;
 
 /// Rules on what certificates of TLS servers are used for (TLS BR 7.1.2.7.6, 7.1.2.7.10, 7.1.2.7.11).
 #[derive(Clone, Copy, Debug, PartialEq, Eq)]
@@ -62,27 +62,30 @@ pub enum WebUsageRule {
     SubjectKeyIdentifierPresent,
 }
 
+/// How the rules are told, in the order of their variants.
+static ENTRIES: [WebEntry; 12] = entries! {
+    ExtendedKeyUsageAbsent => must("extended_key_usage_absent", "7.1.2.7.10", None, "tbsCertificate.extensions.extKeyUsage"),
+    ExtendedKeyUsageForbidden => must("extended_key_usage_forbidden", "7.1.2.7.10", from_day(2023, 9, 15), "tbsCertificate.extensions.extKeyUsage"),
+    ExtendedKeyUsageOther => should("extended_key_usage_other", "7.1.2.7.10", from_day(2023, 9, 15), "tbsCertificate.extensions.extKeyUsage"),
+    ExtendedKeyUsageCritical => must("extended_key_usage_critical", "7.1.2.7.6", from_day(2023, 9, 15), "tbsCertificate.extensions.extKeyUsage"),
+    KeyUsageAbsent => should("key_usage_absent", "7.1.2.7.6", from_day(2023, 9, 15), "tbsCertificate.extensions.keyUsage"),
+    KeyUsageNotCritical => must("key_usage_not_critical", "7.1.2.7.6", from_day(2023, 9, 15), "tbsCertificate.extensions.keyUsage"),
+    KeyUsageOfAuthority => must("key_usage_of_authority", "7.1.2.7.11", None, "tbsCertificate.extensions.keyUsage"),
+    KeyUsageNotOfRsa => must("key_usage_not_of_rsa", "7.1.2.7.11", from_day(2023, 9, 15), "tbsCertificate.extensions.keyUsage"),
+    KeyUsageNotOfEc => must("key_usage_not_of_ec", "7.1.2.7.11", from_day(2023, 9, 15), "tbsCertificate.extensions.keyUsage"),
+    EcWithoutDigitalSignature => must("ec_without_digital_signature", "7.1.2.7.11", from_day(2023, 9, 15), "tbsCertificate.extensions.keyUsage"),
+    BasicConstraintsNotCritical =>
+        must("basic_constraints_not_critical", "7.1.2.7.6", from_day(2023, 9, 15), "tbsCertificate.extensions.basicConstraints"),
+    SubjectKeyIdentifierPresent =>
+        should("subject_key_identifier_present", "7.1.2.7.6", from_day(2023, 9, 15), "tbsCertificate.extensions.subjectKeyIdentifier"),
+};
+
 impl WebUsageRule {
     /// How the rule is told, and since when it is in force.
     pub fn entry(self) -> WebEntry
         ensures { IsTold result (grammar.usage_sentence self) }
     {
-        told! { self: WebUsageRule;
-            ExtendedKeyUsageAbsent => must("extended_key_usage_absent", "7.1.2.7.10", None, "tbsCertificate.extensions.extKeyUsage"),
-            ExtendedKeyUsageForbidden => must("extended_key_usage_forbidden", "7.1.2.7.10", from_day(2023, 9, 15), "tbsCertificate.extensions.extKeyUsage"),
-            ExtendedKeyUsageOther => should("extended_key_usage_other", "7.1.2.7.10", from_day(2023, 9, 15), "tbsCertificate.extensions.extKeyUsage"),
-            ExtendedKeyUsageCritical => must("extended_key_usage_critical", "7.1.2.7.6", from_day(2023, 9, 15), "tbsCertificate.extensions.extKeyUsage"),
-            KeyUsageAbsent => should("key_usage_absent", "7.1.2.7.6", from_day(2023, 9, 15), "tbsCertificate.extensions.keyUsage"),
-            KeyUsageNotCritical => must("key_usage_not_critical", "7.1.2.7.6", from_day(2023, 9, 15), "tbsCertificate.extensions.keyUsage"),
-            KeyUsageOfAuthority => must("key_usage_of_authority", "7.1.2.7.11", None, "tbsCertificate.extensions.keyUsage"),
-            KeyUsageNotOfRsa => must("key_usage_not_of_rsa", "7.1.2.7.11", from_day(2023, 9, 15), "tbsCertificate.extensions.keyUsage"),
-            KeyUsageNotOfEc => must("key_usage_not_of_ec", "7.1.2.7.11", from_day(2023, 9, 15), "tbsCertificate.extensions.keyUsage"),
-            EcWithoutDigitalSignature => must("ec_without_digital_signature", "7.1.2.7.11", from_day(2023, 9, 15), "tbsCertificate.extensions.keyUsage"),
-            BasicConstraintsNotCritical =>
-                must("basic_constraints_not_critical", "7.1.2.7.6", from_day(2023, 9, 15), "tbsCertificate.extensions.basicConstraints"),
-            SubjectKeyIdentifierPresent =>
-                should("subject_key_identifier_present", "7.1.2.7.6", from_day(2023, 9, 15), "tbsCertificate.extensions.subjectKeyIdentifier"),
-        }
+        ENTRIES[self as usize]
     }
 
     /// Of which part of a certificate the rule speaks.

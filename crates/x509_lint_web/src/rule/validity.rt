@@ -4,12 +4,11 @@ ghost use Rattle.std.specs.Prelude.{◌≡◌};
 ghost use Rattle.x509_lint_web.specs.Validity as grammar;
 ghost use Rattle.x509_lint_web.specs.Sentence.{IsTold};
 
-use crate::entry::{WebEntry, from_day, must, should};
+use crate::entry::{WebEntry, entries};
 use crate::times::is_longer;
 use crate::values::WebValues;
 use x509_base::Raw;
 use x509_cert::certificate::CertificateInner;
-use x509_lint::told;
 
 /// Rules on the validity of certificates of TLS servers (TLS BR 6.3.2).
 #[derive(Clone, Copy, Debug, PartialEq, Eq)]
@@ -42,38 +41,34 @@ pub enum WebValidityRule {
     ValidityOver46Days,
 }
 
+/// How the rules are told, in the order of their variants.
+static ENTRIES: [WebEntry; 9] = entries! {
+    ValidityOver825Days => must("validity_over_825_days", "6.3.2", from_day(2018, 3, 2), "tbsCertificate.validity"),
+    ValidityOver398Days => must("validity_over_398_days", "6.3.2", from_day(2020, 9, 1), "tbsCertificate.validity"),
+    ValidityOver397Days => should("validity_over_397_days", "6.3.2", from_day(2020, 9, 1), "tbsCertificate.validity"),
+    ValidityOver200Days => must("validity_over_200_days", "6.3.2", from_day(2026, 3, 15), "tbsCertificate.validity"),
+    ValidityOver100Days => must("validity_over_100_days", "6.3.2", from_day(2027, 3, 15), "tbsCertificate.validity"),
+    ValidityOver47Days => must("validity_over_47_days", "6.3.2", from_day(2029, 3, 15), "tbsCertificate.validity"),
+    ValidityOver199Days => should("validity_over_199_days", "6.3.2", from_day(2026, 3, 15), "tbsCertificate.validity"),
+    ValidityOver99Days => should("validity_over_99_days", "6.3.2", from_day(2027, 3, 15), "tbsCertificate.validity"),
+    ValidityOver46Days => should("validity_over_46_days", "6.3.2", from_day(2029, 3, 15), "tbsCertificate.validity"),
+};
+
+/// Than how many days the validity is longer, in the order of the variants.
+static DAYS: [u16; 9] = [825, 398, 397, 200, 100, 47, 199, 99, 46];
+
 impl WebValidityRule {
     /// How the rule is told, and since when it is in force.
     pub fn entry(self) -> WebEntry
         ensures { IsTold result (grammar.validity_sentence self) }
     {
-        told! { self: WebValidityRule;
-            ValidityOver825Days => must("validity_over_825_days", "6.3.2", from_day(2018, 3, 2), "tbsCertificate.validity"),
-            ValidityOver398Days => must("validity_over_398_days", "6.3.2", from_day(2020, 9, 1), "tbsCertificate.validity"),
-            ValidityOver397Days => should("validity_over_397_days", "6.3.2", from_day(2020, 9, 1), "tbsCertificate.validity"),
-            ValidityOver200Days => must("validity_over_200_days", "6.3.2", from_day(2026, 3, 15), "tbsCertificate.validity"),
-            ValidityOver100Days => must("validity_over_100_days", "6.3.2", from_day(2027, 3, 15), "tbsCertificate.validity"),
-            ValidityOver47Days => must("validity_over_47_days", "6.3.2", from_day(2029, 3, 15), "tbsCertificate.validity"),
-            ValidityOver199Days => should("validity_over_199_days", "6.3.2", from_day(2026, 3, 15), "tbsCertificate.validity"),
-            ValidityOver99Days => should("validity_over_99_days", "6.3.2", from_day(2027, 3, 15), "tbsCertificate.validity"),
-            ValidityOver46Days => should("validity_over_46_days", "6.3.2", from_day(2029, 3, 15), "tbsCertificate.validity"),
-        }
+        ENTRIES[self as usize]
     }
 
     /// Whether the certificate, of which these are the values, breaks the rule.
     pub(crate) fn is_broken(self, certificate: &CertificateInner<Raw>, _values: &WebValues) -> bool
         ensures { result ≡ (grammar.validity_sentence self).breaks certificate.now _values.now }
     {
-        match self {
-            WebValidityRule::ValidityOver825Days => is_longer(825, certificate),
-            WebValidityRule::ValidityOver398Days => is_longer(398, certificate),
-            WebValidityRule::ValidityOver397Days => is_longer(397, certificate),
-            WebValidityRule::ValidityOver200Days => is_longer(200, certificate),
-            WebValidityRule::ValidityOver100Days => is_longer(100, certificate),
-            WebValidityRule::ValidityOver47Days => is_longer(47, certificate),
-            WebValidityRule::ValidityOver199Days => is_longer(199, certificate),
-            WebValidityRule::ValidityOver99Days => is_longer(99, certificate),
-            WebValidityRule::ValidityOver46Days => is_longer(46, certificate),
-        }
+        is_longer(DAYS[self as usize], certificate)
     }
 }

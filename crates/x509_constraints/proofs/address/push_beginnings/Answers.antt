@@ -1,5 +1,5 @@
 use Rattle.std.proofs.Common.{List, ℕ, ◌<◌, OnOk, ◌++◌, take, ◌≡◌, subst, sym, arith}
-use Rattle.x509_constraints.specs.AddressLaws.{octet_symbols-small}
+use Rattle.x509_constraints.proofs.AddressLaws.{octet_symbols-small}
 use Rattle.x509_constraints.proofs.address.push_beginnings.Goals as goal
 
 pub returns : goal.returns

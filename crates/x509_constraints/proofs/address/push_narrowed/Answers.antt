@@ -1,5 +1,5 @@
 use Rattle.std.proofs.Common.{◌∙◌}
-use Rattle.x509_constraints.specs.AddressLaws.{narrowed_step}
+use Rattle.x509_constraints.proofs.AddressLaws.{narrowed_step}
 use Rattle.x509_constraints.proofs.address.push_narrowed.Goals as goal
 
 pub loop-i-preserved : goal.loop-i-preserved

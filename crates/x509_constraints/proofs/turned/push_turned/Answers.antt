@@ -1,6 +1,6 @@
 use Rattle.std.proofs.Common.{◌+◌, ◌-◌, ◌∙◌, arith}
 use Rattle.std.proofs.Common.{ap}
-use Rattle.x509_constraints.specs.KeyLaws.{turned_more, turned_none}
+use Rattle.x509_constraints.proofs.KeyLaws.{turned_more, turned_none}
 use Rattle.x509_constraints.proofs.turned.push_turned.Goals as goal
 
 pub loop-left-init : goal.loop-left-init

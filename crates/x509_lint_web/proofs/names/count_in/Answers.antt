@@ -1,7 +1,7 @@
 use Rattle.std.proofs.Common.{rules, tests}
 use Rattle.std.proofs.lemmas.Iterator.{YieldsList-from_slice}
 use Rattle.std.proofs.lemmas.Iterator.Consumers.{count_from_yields_List, YieldsList-from_filter}
-use Rattle.x509_lint_web.specs.Name.{is_common_name}
+use Rattle.x509_lint_web.specs.CommonName.{is_common_name}
 use Rattle.x509_lint_web.proofs.names.count_in.Goals as goal
 
 pub returns : goal.returns

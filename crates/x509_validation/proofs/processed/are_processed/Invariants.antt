@@ -5,4 +5,4 @@ use Rattle.x509_validation.specs.Validation.{IsProcessed}
 use Rattle.x509_validation.proofs.processed.are_processed.Given as goal
 
 abbrev pub invariant-loop-extension : goal.invariant-loop-extension
-invariant-loop-extension l = All (λ e. e.critical ≡ true → IsProcessed (lent_extension e)) (take l.extension-index l.extensions)
+invariant-loop-extension l = All (λ e. e.critical ≡ true → IsProcessed l.asks_purpose (lent_extension e)) (take l.extension-index l.extensions)

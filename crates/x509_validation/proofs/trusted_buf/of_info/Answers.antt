@@ -1,10 +1,21 @@
-use Rattle.std.proofs.Common.{◌∙◌, inr, refl, sym}
+use Rattle.std.proofs.Common.{◌∙◌, inl, inr, refl, sym}
 use Rattle.std.proofs.lemmas.Bool.{true≢false}
 use Rattle.std.proofs.lemmas.Result.{err_from_is_err_and}
 use Rattle.x509_validation.specs.Inputs.{Trust}
 use Rattle.x509_validation.specs.Trusts.{IsTrustOfInfo, RefusesInfo, flags_or, or_else}
-use Rattle.x509_validation.proofs.Refusals.{answered, described, its_limits, other_certificate}
+use Rattle.x509_validation.proofs.Refusals.{answered, described, its_limits, other_certificate, uncontrolled, unfollowed}
 use Rattle.x509_validation.proofs.trusted_buf.of_info.Goals as goal
+
+pub returns-in_default : goal.returns-in_default
+returns-in_default c = rw c.into.ensures (uncontrolled c.args.info.now c.in_default.is)
+
+pub returns-then-is_empty : goal.returns-then-is_empty
+returns-then-is_empty c = rw c.into-then-is_empty.ensures (unfollowed c.args.info.now c.in-Some.controls c.in-Some.is (inl (c.is_empty.ensures.0 c.if-is_empty.true)))
+
+pub returns-then-not-may_others_be_left : goal.returns-then-not-may_others_be_left
+returns-then-not-may_others_be_left c =
+    rw c.into-then-not-may_others_be_left.ensures (unfollowed c.args.info.now c.in-Some.controls c.in-Some.is
+    (inr (λ all. true≢false (sym (c.may_others_be_left.ensures.1 all) ∙ c.if-not-may_others_be_left.true))))
 
 pub returns-in_err-has_its_certificate : goal.returns-in_err-has_its_certificate
 returns-in_err-has_its_certificate c =
@@ -38,6 +49,8 @@ returns c =
       controls = controls;
       own = own;
       has_controls = c.in-Some.is;
+      named = λ empty. true≢false (sym (c.is_empty.ensures.1 empty) ∙ c.if-is_empty.false);
+      others = c.may_others_be_left.ensures.0 c.if-not-may_others_be_left.false;
       certificate = c.in_ok-has_its_certificate.ensures.0 c.if-not-branch.false;
       are_own = c.in_ok-own.ensures;
       anchor = refl;

@@ -1,8 +1,12 @@
-use Rattle.std.proofs.Common.{◌≡◌, ◌++◌, ◌∷◌, [], Err, Ok, suc, true, length, sym, subst, arith}
+use Rattle.std.proofs.Common.{◌≡◌, Bor, List, ℕ, ◌++◌, ◌∷◌, [], Err, Ok, suc, true, length, sym, subst, arith}
 use Rattle.std.proofs.lemmas.Slice.Zip.{AllZip-long}
+use Rattle.x509_der.specs.Any.{any}
+use Rattle.x509_validation.specs.Inputs.{SpellsOption}
+use Rattle.x509_validation.specs.Keys.{key_behind, parameters_of, working_key}
 use Rattle.x509_validation.specs.Steps.{JudgesAlone, StopsAt, said_by, standing}
 use Rattle.x509_validation.specs.Says.{Says}
 use Rattle.x509_path.proofs.Along.{zip_push}
+use Rattle.x509_validation.proofs.WorkingKeys.{one_behind}
 use Rattle.x509_validation.proofs.PolicySteps.{ended, stopped}
 use Rattle.x509_policy.specs.Follows.{Follows}
 use Rattle.x509_policy.specs.Views.{octets_of}
@@ -34,7 +38,10 @@ returns-in-Ok-end_said g c = λ inputs above before stands carries late.
     let own = said_by c.in-Ok.judged.1.policies in
     let outcome = c.in-Ok-end_said.ensures carries.settings carries.said follows in (
       judged.0,
-      c.from_certificate.ensures judged.0 judged.1,
+      c.below-below.ensures.anchor judged.0 judged.1,
+      subst (λ k. SpellsOption (λ (l : Bor (List ℕ)). l.now) any c.parameters.result (parameters_of k)) (sym (one_behind inputs.trust.anchor.key before judged.0))
+          (c.parameters.ensures (working_key (key_behind inputs.trust.anchor.key before) judged.0.tbs_certificate.subject_public_key_info)
+          (c.below-below.ensures.key judged.0 (key_behind inputs.trust.anchor.key before) judged.1 stands.key)),
       record {
         settings = carries.settings;
         said = carries.said ++ own ∷ [];

@@ -12,6 +12,6 @@ returns-in-Ok c inputs lends =
     let path : List (List ℕ) = map (λ (input : Bor (List ℕ)). input.now) c.args.path.now in
     let left : Left = record { room = c.args.room.now; answer = c.args.answer.now } in
     let found : List Policy = octets_of c.in-Ok.validated.policies.items in
-    let under : IsUnder inputs path found = (c.in-Ok.ensures inputs lends).1.1 in
+    let under : IsUnder inputs path found = (c.in-Ok.ensures.lent inputs lends).1.1.0 in
     let same : octets_of c.as_slice.result.now ≡ found = ap octets_of c.as_slice.ensures.value in
     subst (λ status. TellsValidation inputs path left left status) (sym c.into.ensures) (why_refused inputs path found (octets_of c.as_slice.result.now) c.in-Err.e.kind under same c.in-Err.ensures, refl)

@@ -1,5 +1,5 @@
 use Rattle.std.specs.List.{All}
-use Rattle.x509_constraints.specs.Constraints.{IsAllowed, IsAttributeAllowed}
+use Rattle.x509_constraints.specs.Constraints.{IsAttributeAllowed}
 use Rattle.x509_constraints.proofs.Asked.{all_done, all_step, not_all}
 use Rattle.x509_constraints.proofs.sets.ConstraintSets.allows_emails.Goals as goal
 

@@ -16,7 +16,7 @@ returns g c = λ inputs above before certificate stands knows.
     let subject = c.in_ok-subject.ensures certificate.tbs_certificate.subject spells in
     let has : HasAlternativeNames certificate c.in_ok-names.names = λ names.
     subst (λ es. HasPayload subject_alt_name (id_ce 17) es names ↔ (c.in_ok-names.names ≡ Some names)) knows.extensions (c.in_ok-names.ensures names) in
-    let said = c.in_ok-are_allowed.ensures stands.constraints stands.applied.applied in
+    let said = c.in_ok-are_allowed.ensures.same stands.constraints stands.applied.applied in
     let there = allowed inputs before certificate stands.constraints stands.collects c.in_ok-names.names has in
     let of_subject = subst (λ n. IsTrue c.in_ok-are_allowed.are_allowed ↔ AreAllowed stands.constraints (names_asked n (option_copied c.as_ref.result))) subject said in
     let of_names = subst (λ o. IsTrue c.in_ok-are_allowed.are_allowed ↔ AreAllowed stands.constraints (names_asked certificate.tbs_certificate.subject o)) c.as_ref.ensures.value of_subject in

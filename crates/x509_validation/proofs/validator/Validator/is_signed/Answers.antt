@@ -2,8 +2,8 @@ use Rattle.std.proofs.Common.{sym, ◌∙◌}
 use Rattle.x509_validation.proofs.validator.Validator.is_signed.Goals as goal
 
 pub returns : goal.returns
-returns g c = λ certificate above lends over.
-    let said = c.in_ok-accepted.ensures above.key certificate.signature_algorithm certificate.signature over.1 (c.signed_of-signed.ensures.algorithm certificate lends) (c.signed_of-signed.ensures.signature certificate lends) in (
+returns g c = λ certificate key lends holds.
+    let said = c.in_ok-accepted.ensures key certificate.signature_algorithm certificate.signature holds (c.signed_of-signed.ensures.algorithm certificate lends) (c.signed_of-signed.ensures.signature certificate lends) in (
       (λ so. (c.signed_of-signed.result.message.now, c.signed_of-signed.ensures.message, sym said ∙ so)),
       (λ (signed, part, so). said ∙ (rw (c.one_signed_part.ensures _ signed c.signed_of-signed.result.message.now part c.signed_of-signed.ensures.message) at so)),
     )

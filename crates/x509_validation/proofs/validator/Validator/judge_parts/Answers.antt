@@ -3,10 +3,13 @@ use Rattle.std.proofs.lemmas.Bool.{true≢false}
 use Rattle.std.proofs.lemmas.List.{take_all}
 use Rattle.std.proofs.lemmas.List.Elements.{All-more}
 use Rattle.std.specs.List.{All}
-use Rattle.x509_validation.specs.Steps.{standing}
+use Rattle.std.specs.Option.{option_map}
+use Rattle.x509_policy.specs.Views.{octets_of}
+use Rattle.x509_validation.specs.Steps.{left_at, standing}
 use Rattle.x509_validation.specs.Validation.{Breaks, own_reasons}
 use Rattle.x509_validation.specs.declared.validation_fault.ValidationReason.TheVariants.{Decode, RepeatedPolicy, Policy, PolicyMapping}
 use Rattle.x509_path.proofs.Firsts.{first_wrong_at}
+use Rattle.x509_validation.proofs.LeftPurposes.{left_behind_is, left_here}
 use Rattle.x509_validation.proofs.Verdicts.{all_own, knows_of}
 use Rattle.x509_validation.proofs.validator.Validator.judge_parts.Goals as goal
 
@@ -34,4 +37,11 @@ returns g c = λ inputs above before n certificate stands lends same.
     lends same c.basic_constraints-basic_constraints.ensures (c.in_ok-name_constraints.ensures certificate same) in
     let free = subst (All (λ r. Breaks (g.S.Signatures.accepts c.args.self.now.signatures.now) inputs (standing above before c.args.stand.now.is_last n) c.args.certificate.now.bytes.now certificate r → ⊥))
     (take_all c.loop-reason.reason-index own_reasons c.loop-reason-test.false) (c.loop-reason.invariant inputs above before n certificate stands lends same) in
-    (knows.limits, (c.in_ok-policies.ensures certificate lends same (free 6 Decode (omega arith)), (lends, free)))
+    let left = option_map (λ v. octets_of v.items) c.in_ok-purposes.purposes in (
+      (λ early. record {
+        of_limits = knows.limits early;
+        of_purposes = left_behind_is inputs.purposes inputs.uses.is_chained c.args.stand.now.is_last before certificate left early
+            (left_here inputs c.args.stand.now.sets.now.uses c.args.stand.now.is_last before certificate (left_at c.args.stand.now.sets.now) left stands.uses stands.purposes (c.in_ok-purposes.ensures inputs.purposes before certificate same));
+      }),
+      (c.in_ok-policies.ensures certificate lends same (free 6 Decode (omega arith)), (lends, free)),
+    )
