@@ -16,9 +16,12 @@ use Rattle.x509_policy.proofs.Steps.{way_at}
 use Rattle.x509_policy.proofs.WayBack.{goes_back}
 use Rattle.x509_policy.proofs.Pairs.{back_right, Fresh, fresh_at, at_fresh}
 
--- what holds of a list holds of what is equal to it
-pub in_ok : {V E : Type 0} (r : Result V E) (view : V → List Policy) (ps : List Policy) (Q : List Policy → Type 0) → Q ps → IfOk r (λ v. view v ≡ ps) → IfOk r (λ v. Q (view v))
-in_ok r view ps Q q h = IfOk-weaker r (λ v. view v ≡ ps) (λ v. Q (view v)) (λ v e. subst Q (sym e) q) h
+-- what the members of a list are, those of a set of them are
+pub in_ok_set : {E : Type 0} (r : Result (List Policy) E) (ps : List Policy) (Q : Policy → Type 0) → ((p : Policy) → In p ps ↔ Q p) → IfOk r (λ found. has found ≡ has ps) → IfOk r (λ found. (p : Policy) → In p found ↔ Q p)
+in_ok_set r ps Q q h = IfOk-weaker r (λ found. has found ≡ has ps) (λ found. (p : Policy) → In p found ↔ Q p) (λ found same p. (
+  (λ is. (q p).0 (has-In p ps (sym (ap (λ test. test p) same) ∙ In-has p found is))),
+  (λ so. has-In p found (ap (λ test. test p) same ∙ In-has p ps ((q p).1 so))),
+)) h
 
 pub levels_push : (above : List Level) (levels : List code.Level) (level : code.Level) → levels_on above (levels ++ level ∷ []) ≡ made level ∷ levels_on above levels
 levels_push above [] level = refl

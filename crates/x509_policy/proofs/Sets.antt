@@ -203,7 +203,7 @@ below_none x (y ∷ xs) (first, more) =
     let other : bytes_eq y.now x.now ≡ false = is_false (bytes_eq y.now x.now) (λ t. not_both (bytes_eq x.now y.now) ((bytes_eq-Decides x.now y.now).1 (sym ((bytes_eq-Decides y.now x.now).0 t))) apart) in
     has-first y.now (octets_of xs) x.now ∙ (ap (λ b. b || has (octets_of xs) x.now) other ∙ below_none x xs more)
 
-strictly_once : (xs : List Lent) → IsStrictlySortedBy Order xs → is_repeated (octets_of xs) ≡ false
+pub strictly_once : (xs : List Lent) → IsStrictlySortedBy Order xs → is_repeated (octets_of xs) ≡ false
 unfolding IsStrictlySortedBy
 strictly_once [] h = refl
 strictly_once (x ∷ xs) (first, more) = ap (λ b. b || is_repeated (octets_of xs)) (below_none x xs first) ∙ strictly_once xs more

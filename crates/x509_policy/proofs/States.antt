@@ -261,9 +261,9 @@ module _ (missing : Bool) (counter : ℕ) (items slice : List Lead) (is : slice 
   pub leads_some : missing ≡ false → counter ≡ 0 → leads_of items ≡ [] → ⊥
   leads_some h z e = not_both missing (tests.1 (z, is ∙ no_items lead_of items e)) h
 
-module _ (missing : Bool) (counter : ℕ) (items slice : List (Bor (List ℕ))) (is : slice ≡ items) (tests : IsTrue missing ↔ ((counter ≡ 0) × (slice ≡ []))) where
-  pub policies_missing : missing ≡ true → (counter ≡ 0) × (octets_of items ≡ [])
-  policies_missing h = let (z, e) = tests.0 h in (z, ap octets_of (sym is ∙ e))
+module _ (missing : Bool) (counter : ℕ) (policies : List Policy) (slice : List (Bor (List ℕ))) (is : octets_of slice ≡ policies) (tests : IsTrue missing ↔ ((counter ≡ 0) × (slice ≡ []))) where
+  pub policies_missing : missing ≡ true → (counter ≡ 0) × (policies ≡ [])
+  policies_missing h = let (z, e) = tests.0 h in (z, sym is ∙ ap octets_of e)
 
-  pub policies_some : missing ≡ false → counter ≡ 0 → octets_of items ≡ [] → ⊥
-  policies_some h z e = not_both missing (tests.1 (z, is ∙ no_items (λ (p : Bor (List ℕ)). p.now) items e)) h
+  pub policies_some : missing ≡ false → counter ≡ 0 → policies ≡ [] → ⊥
+  policies_some h z e = not_both missing (tests.1 (z, no_items (λ (p : Bor (List ℕ)). p.now) slice (is ∙ e))) h

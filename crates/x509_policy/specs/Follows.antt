@@ -1,6 +1,6 @@
 -- What is answered to a path, certificate by certificate.
-use Rattle.std.specs.Prelude.{◌≡◌, ℕ, suc, ◌+◌, ◌≤◌, List, [], ◌∷◌, ◌++◌, map, length, Option, Some, None}
-use Rattle.x509_policy.specs.Values.{any_policy, Certificate, Settings}
+use Rattle.std.specs.Prelude.{◌≡◌, ℕ, suc, ◌+◌, ◌≤◌, false, List, [], ◌∷◌, ◌++◌, map, length, Option, Some, None}
+use Rattle.x509_policy.specs.Values.{any_policy, Certificate, Settings, is_repeated}
 use Rattle.x509_policy.specs.Path.{Counters, Outcome, Refused, Valid, Reason, RepeatedPolicy, MapsAnyPolicy, NoPolicy, outcome}
 use Rattle.x509_policy.specs.Levels.{Level, IsAt, Expects, last_level, ByLevels, Alike}
 use Rattle.x509_policy.specs.Stands.{Stands}
@@ -72,6 +72,11 @@ reason_of reasons.NoPolicy = NoPolicy
 abbrev pub outcome_of : PolicyOutcome → Outcome
 outcome_of (outcomes.Refused place reason) = Refused place (reason_of reason)
 outcome_of (outcomes.Valid policies) = Valid (octets_of policies.items)
+
+-- no policy stands twice in what is answered
+abbrev pub EachOnce : PolicyOutcome → Type 0
+EachOnce (outcomes.Refused place reason) = Unit {0}
+EachOnce (outcomes.Valid policies) = is_repeated (octets_of policies.items) ≡ false
 
 -- What is answered at a certificate that isn't the last: a reason, with which the path is refused there, whatever stands behind; or none, and the state
 -- goes on.

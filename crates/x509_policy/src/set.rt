@@ -1,8 +1,8 @@
 //! Sets of policies, or of other OIDs, asked whether they have one.
 
-ghost use Rattle.std.specs.Prelude.{◌≡◌, List, length, nat_lt};
+ghost use Rattle.std.specs.Prelude.{◌≡◌, List, false, length, nat_lt};
 ghost use Rattle.std.specs.Cmp.Lexicographic.{slice_cmp};
-ghost use Rattle.std.specs.List.Sorted.{IsSorted};
+ghost use Rattle.std.specs.List.Sorted.{IsStrictlySortedBy};
 ghost use Rattle.std.specs.Ordering.{nat_cmp};
 ghost use Rattle.x509_policy.specs.Values.{Policy, has, is_repeated};
 ghost use Rattle.x509_policy.specs.Views.{octets_of};
@@ -20,7 +20,7 @@ impl<'a> Model for PolicySet<'a> {
 
     ghost view = { λ set. octets_of set.policies.items };
 
-    ghost invariant = { λ set. IsSorted (λ p q. slice_cmp nat_cmp p.now q.now) set.policies.items };
+    ghost invariant = { λ set. IsStrictlySortedBy (λ p q. slice_cmp nat_cmp p.now q.now) set.policies.items };
 }
 
 impl<'a> PolicySet<'a> {
@@ -58,9 +58,10 @@ impl<'a> PolicySet<'a> {
         &self.policies
     }
 
-    /// The policies of the set.
+    /// The policies of the set, each once.
     pub(crate) fn into_vec(self) -> Vec<&'a [u8]>
-        ensures { octets_of result.items ≡ self.entry }
+        ensures same { octets_of result.items ≡ self.entry }
+        ensures once { is_repeated (octets_of result.items) ≡ false }
     {
         self.policies
     }

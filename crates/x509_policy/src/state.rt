@@ -3,7 +3,7 @@
 ghost use Rattle.std.specs.Prelude.{◌≡◌, ◌≢◌, ◌↔◌, ◌<◌, ◌++◌, ◌∷◌, [], ◌^◌, ℕ, suc, IfOk, IsTrue, List, OnErr, length, map};
 ghost use Rattle.std.specs.Option.{option_map};
 ghost use Rattle.x509_policy.specs.Edges.{IsLevelOf, certificate_leads};
-ghost use Rattle.x509_policy.specs.Follows.{Follows, IsAnswered, IsOutcome, expectations_of, outcome_of, reason_of};
+ghost use Rattle.x509_policy.specs.Follows.{EachOnce, Follows, IsAnswered, IsOutcome, expectations_of, outcome_of, reason_of};
 ghost use Rattle.x509_policy.specs.Path.{has_repeated, takes_others};
 ghost use Rattle.x509_policy.specs.Values.{Certificate, Settings};
 ghost use Rattle.x509_policy.specs.Views.{certificate_of, settings_of};
@@ -37,7 +37,8 @@ pub enum PolicyOutcome<'a> {
         /// What is wrong.
         reason: PolicyReason,
     },
-    /// The path is valid under these policies, the user-constrained policy set (RFC 5280 6.1.5 (g)). Any-policy is one of them.
+    /// The path is valid under these policies, the user-constrained policy set (RFC 5280 6.1.5 (g)), each of them once. Any-policy
+    /// is one of them.
     Valid(Vec<&'a [u8]>),
 }
 
@@ -157,8 +158,9 @@ impl<'s, 'a> PolicyState<'s, 'a> {
         alloc: Global,
         certificate: &PolicyView<'_, 'a>,
     ) -> Result<PolicyOutcome<'a>, AllocError>
-        ensures { (settings : Settings) (before : List Certificate) → Follows settings (suc (length before)) before self.now
+        ensures answer { (settings : Settings) (before : List Certificate) → Follows settings (suc (length before)) before self.now
             → IfOk result (λ out. IsOutcome settings (before ++ certificate_of certificate.now ∷ []) (outcome_of out)) }
+        ensures once { IfOk result EachOnce }
     {
         let place = self.levels.len();
         let again = is_repeated(alloc, certificate)?;
@@ -177,7 +179,7 @@ impl<'s, 'a> PolicyState<'s, 'a> {
         if is_missing(counter, policies.as_slice()) {
             return Ok(PolicyOutcome::Refused { place, reason });
         }
-        Ok(PolicyOutcome::Valid(policies))
+        Ok(PolicyOutcome::Valid(policies.into_vec()))
     }
 }
 
@@ -192,7 +194,8 @@ pub fn check_policies<'a>(
     path: &[PolicyView<'_, 'a>],
     last: &PolicyView<'_, 'a>,
 ) -> Result<PolicyOutcome<'a>, AllocError>
-    ensures { IfOk result (λ out. IsOutcome (settings_of settings.now) (map certificate_of path.now ++ certificate_of last.now ∷ []) (outcome_of out)) }
+    ensures answer { IfOk result (λ out. IsOutcome (settings_of settings.now) (map certificate_of path.now ++ certificate_of last.now ∷ []) (outcome_of out)) }
+    ensures once { IfOk result EachOnce }
 {
     let mut state = PolicyState::new(alloc, settings, path.len() + 1);
     for (place, certificate) in path.iter().enumerate() {

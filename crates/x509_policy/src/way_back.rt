@@ -114,13 +114,14 @@ fn chosen<'a>(
     alloc: Global,
     user: &[&'a [u8]],
     leading: PolicySet<'a>,
-) -> Result<Vec<&'a [u8]>, AllocError>
-    ensures { IfOk result (λ found. octets_of found.items ≡ edges.constrained (octets_of user.now) leading.entry) }
+) -> Result<PolicySet<'a>, AllocError>
+    ensures { IfOk result (λ found. has found ≡ has (edges.constrained (octets_of user.now) leading.entry)) }
 {
     if has_policy(user, ANY_POLICY.as_slice()) {
-        return Ok(leading.into_vec());
+        return Ok(leading);
     }
-    asked(alloc, user, &leading)
+    // The user may ask for a policy twice.
+    Ok(PolicySet::new(asked(alloc, user, &leading)?))
 }
 
 /// The user-constrained policy set of a path with these levels, of which `next` is the last, where the user asks for these.
@@ -129,9 +130,9 @@ pub(crate) fn constrained<'a>(
     user: &[&'a [u8]],
     levels: &[Level<'a>],
     next: &NextLevel<'a>,
-) -> Result<Vec<&'a [u8]>, AllocError>
+) -> Result<PolicySet<'a>, AllocError>
     ensures { edges.ListsEnds next.now → AllHang (last_of next.now ∷ levels_of levels.now)
-        → IfOk result (λ found. (p : Policy) → In p (octets_of found.items) ↔ IsConstrained (octets_of user.now) (last_of next.now ∷ levels_of levels.now) p) }
+        → IfOk result (λ found. (p : Policy) → In p found ↔ IsConstrained (octets_of user.now) (last_of next.now ∷ levels_of levels.now) p) }
 {
     let mut found = firsts(alloc, levels, next)?;
     push_any(&mut found, &next.policies)?;

@@ -87,13 +87,19 @@ fn any_policy(rt: HostRuntime) {
     let alloc = rt.alloc();
     let (p, q): (&[u8], &[u8]) = (b"\x2A\x01", b"\x2A\x02");
     let any = [ANY_POLICY.as_slice()];
-    let (one, other, both) = ([p], [q], [p, q]);
+    let (one, other, both, again) = ([p], [q], [p, q], [q, p, q]);
     let path = [certificate(&any, &[])];
     let last = certificate(&other, &[]);
     assert!(rt; is_valid(check_policies(alloc, &asking(&any), &path, &last), &other));
     assert!(rt;
         is_valid(
             check_policies(alloc, &asking(&both), &path, &path[0]),
+            &both
+        )
+    );
+    assert!(rt;
+        is_valid(
+            check_policies(alloc, &asking(&again), &path, &path[0]),
             &both
         )
     );

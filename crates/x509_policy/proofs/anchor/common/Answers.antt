@@ -19,4 +19,4 @@ returns c =
     let all : octets_of c.append.new.self.items ≡ asked user (has of_anchor) ++ asked anchor (has of_user) =
     ap octets_of c.in_ok-append.ensures.items ∙ (map-append (λ p. p.now) own others
     ∙ (ap (λ l. l ++ octets_of others) c.in_ok-found.ensures ∙ ap (λ l. asked user (has of_anchor) ++ l) c.in_ok-others.ensures)) in
-    common_right user anchor of_user of_anchor (octets_of c.into_vec.result.items) one two (ap has c.into_vec.ensures ∙ (c.new.ensures.same ∙ ap has all))
+    common_right user anchor of_user of_anchor (octets_of c.into_vec.result.items) one two (ap has c.into_vec.ensures.same ∙ (c.new.ensures.same ∙ ap has all))

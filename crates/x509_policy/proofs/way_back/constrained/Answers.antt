@@ -1,10 +1,10 @@
-use Rattle.std.proofs.Common.{◌≡◌, ◌∙◌, ◌↔◌, ◌∷◌, ◌++◌, ap}
+use Rattle.std.proofs.Common.{◌≡◌, ◌∙◌, ◌∷◌, ◌++◌, ap}
 use Rattle.x509_policy.specs.Edges.{leads_of, with_any, constrained}
 use Rattle.x509_policy.specs.Follows.{last_of, levels_of}
-use Rattle.x509_policy.specs.Levels.{In, IsConstrained}
-use Rattle.x509_policy.specs.Values.{Policy, has}
+use Rattle.x509_policy.specs.Levels.{IsConstrained}
+use Rattle.x509_policy.specs.Values.{has}
 use Rattle.x509_policy.specs.Views.{octets_of}
-use Rattle.x509_policy.proofs.PairsBack.{in_ok, constrained_right}
+use Rattle.x509_policy.proofs.PairsBack.{constrained_right, in_ok_set}
 use Rattle.x509_policy.proofs.way_back.constrained.Goals as goal
 
 pub returns : goal.returns
@@ -15,5 +15,5 @@ returns c = λ same hang.
     let found = octets_of c.in_ok-found.found.items in
     let leading = c.new.result in
     let is : has leading ≡ has (found ++ with_any next.policies) = c.new.ensures.same ∙ ap has c.in_ok-push_any.ensures in
-    in_ok c.chosen.result (λ result. octets_of result.items) (constrained user leading) (λ ps. (p : Policy) → In p ps ↔ IsConstrained user (last_of next ∷ levels) p)
+    in_ok_set c.chosen.result (constrained user leading) (λ p. IsConstrained user (last_of next ∷ levels) p)
     (constrained_right (leads_of next.leads.items) next.policies same levels hang found c.in_ok-found.ensures leading is user) c.chosen.ensures

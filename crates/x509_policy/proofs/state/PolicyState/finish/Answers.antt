@@ -1,4 +1,4 @@
-use Rattle.std.proofs.Common.{◌≡◌, ◌∙◌, ◌↔◌, ◌++◌, ◌∷◌, [], suc, true, false, length, sym, subst, arith}
+use Rattle.std.proofs.Common.{◌≡◌, ◌∙◌, ◌↔◌, ◌++◌, ◌∷◌, List, [], suc, true, false, length, sym, subst, arith}
 use Rattle.x509_policy.specs.Edges.{leads_of}
 use Rattle.x509_policy.specs.Follows.{levels_of}
 use Rattle.x509_policy.specs.Path.{has_repeated}
@@ -7,20 +7,19 @@ use Rattle.x509_policy.specs.Views.{certificate_of, counters_of, settings_of}
 use Rattle.x509_policy.specs.Follows.{IsOutcome, last_of}
 use Rattle.x509_policy.specs.Levels.{In, IsConstrained}
 use Rattle.x509_policy.specs.Stands.{AllHang}
-use Rattle.x509_policy.specs.Path.{Refused, RepeatedPolicy, NoPolicy}
-use Rattle.x509_policy.specs.Views.{octets_of}
+use Rattle.x509_policy.specs.Path.{Refused, Valid, RepeatedPolicy, NoPolicy}
 use Rattle.x509_policy.proofs.States.{runs_of, same_ends, leads_missing, leads_some, policies_missing, policies_some, repeated_here, here_stands, none_left_last, none_constrained_last, valid_last}
 use Rattle.x509_policy.proofs.state.PolicyState.finish.Goals as goal
 
-pub returns-then-again : goal.returns-then-again
-returns-then-again c = λ settings before f.
+pub returns-then-again-clause-answer : goal.returns-then-again-clause-answer
+returns-then-again-clause-answer c = λ settings before f.
     let self = c.args.self.now in
     let cert = certificate_of c.args.certificate.now in
     subst (λ d. IsOutcome settings (before ++ cert ∷ []) (Refused d RepeatedPolicy)) (sym f.carries.place ∙ sym c.len-place.ensures)
     (repeated_here settings (suc (length before)) before (counters_of self.counters) self.levels.items (runs_of f) cert (sym c.in_ok-again.ensures ∙ c.if-again.true) [] (omega arith))
 
-pub returns-then-is_missing : goal.returns-then-is_missing
-returns-then-is_missing c = λ settings before f.
+pub returns-then-is_missing-clause-answer : goal.returns-then-is_missing-clause-answer
+returns-then-is_missing-clause-answer c = λ settings before f.
     let self = c.args.self.now in
     let cert = certificate_of c.args.certificate.now in
     let level = c.in_ok-next.next in
@@ -30,12 +29,12 @@ returns-then-is_missing c = λ settings before f.
     (none_left_last settings (suc (length before)) before (counters_of self.counters) self.levels.items (runs_of f) cert
     (leads_of level.leads.items) level.policies (same_ends _ _ _ c.in_ok-next.ensures) c.in_ok-next.ensures.0 once (omega arith) zero empty)
 
-pub returns-then-is_missing-2 : goal.returns-then-is_missing-2
-returns-then-is_missing-2 c = λ settings before f.
+pub returns-then-is_missing-2-clause-answer : goal.returns-then-is_missing-2-clause-answer
+returns-then-is_missing-2-clause-answer c = λ settings before f.
     let self = c.args.self.now in
     let cert = certificate_of c.args.certificate.now in
     let level = c.in_ok-next.next in
-    let found = octets_of c.in_ok-policies.policies.items in
+    let found = c.in_ok-policies.policies in
     let once : has_repeated cert.policies ≡ false = sym c.in_ok-again.ensures ∙ c.if-again.false in
     let same = same_ends _ _ _ c.in_ok-next.ensures in
     let hang : AllHang (last_of level ∷ levels_of self.levels.items) =
@@ -46,17 +45,17 @@ returns-then-is_missing-2 c = λ settings before f.
     let asked : (p : Policy) → In p found ↔ IsConstrained settings.user_initial_policy_set (last_of level ∷ levels_of self.levels.items) p =
     subst (λ (s : Settings). (p : Policy) → In p found ↔ IsConstrained s.user_initial_policy_set (last_of level ∷ levels_of self.levels.items) p) f.carries.asked right in
     let some = leads_some c.is_missing.result self.counters.explicit_policy level.leads.items c.as_slice.result.now c.as_slice.ensures.value c.is_missing.ensures c.if-is_missing.false in
-    let (zero, empty) = policies_missing c.is_missing-2.result c.last_explicit_policy-counter.result c.in_ok-policies.policies.items c.as_slice-2.result.now c.as_slice-2.ensures.value c.is_missing-2.ensures c.if-is_missing-2.true in
+    let (zero, empty) = policies_missing c.is_missing-2.result c.last_explicit_policy-counter.result c.in_ok-policies.policies c.as_slice-2.result.now c.as_slice-2.ensures c.is_missing-2.ensures c.if-is_missing-2.true in
     subst (λ d. IsOutcome settings (before ++ cert ∷ []) (Refused d NoPolicy)) (sym f.carries.place ∙ sym c.len-place.ensures)
     (none_constrained_last settings (suc (length before)) before (counters_of self.counters) self.levels.items (runs_of f) cert
     (leads_of level.leads.items) level.policies same c.in_ok-next.ensures.0 once (omega arith) some found asked (sym c.last_explicit_policy-counter.ensures ∙ zero) empty)
 
-pub returns : goal.returns
-returns c = λ settings before f.
+pub returns-clause-answer : goal.returns-clause-answer
+returns-clause-answer c = λ settings before f.
     let self = c.args.self.now in
     let cert = certificate_of c.args.certificate.now in
     let level = c.in_ok-next.next in
-    let found = octets_of c.in_ok-policies.policies.items in
+    let found = c.in_ok-policies.policies in
     let once : has_repeated cert.policies ≡ false = sym c.in_ok-again.ensures ∙ c.if-again.false in
     let same = same_ends _ _ _ c.in_ok-next.ensures in
     let hang : AllHang (last_of level ∷ levels_of self.levels.items) =
@@ -67,7 +66,8 @@ returns c = λ settings before f.
     let asked : (p : Policy) → In p found ↔ IsConstrained settings.user_initial_policy_set (last_of level ∷ levels_of self.levels.items) p =
     subst (λ (s : Settings). (p : Policy) → In p found ↔ IsConstrained s.user_initial_policy_set (last_of level ∷ levels_of self.levels.items) p) f.carries.asked right in
     let some = leads_some c.is_missing.result self.counters.explicit_policy level.leads.items c.as_slice.result.now c.as_slice.ensures.value c.is_missing.ensures c.if-is_missing.false in
-    let kept = policies_some c.is_missing-2.result c.last_explicit_policy-counter.result c.in_ok-policies.policies.items c.as_slice-2.result.now c.as_slice-2.ensures.value c.is_missing-2.ensures c.if-is_missing-2.false in
-    valid_last settings (suc (length before)) before (counters_of self.counters) self.levels.items (runs_of f) cert
+    let kept = policies_some c.is_missing-2.result c.last_explicit_policy-counter.result c.in_ok-policies.policies c.as_slice-2.result.now c.as_slice-2.ensures c.is_missing-2.ensures c.if-is_missing-2.false in
+    subst (λ (ps : List Policy). IsOutcome settings (before ++ cert ∷ []) (Valid ps)) (sym c.into_vec.ensures.same)
+    (valid_last settings (suc (length before)) before (counters_of self.counters) self.levels.items (runs_of f) cert
     (leads_of level.leads.items) level.policies same c.in_ok-next.ensures.0 once (omega arith) some found asked
-    (λ zero empty. kept (c.last_explicit_policy-counter.ensures ∙ zero) empty)
+    (λ zero empty. kept (c.last_explicit_policy-counter.ensures ∙ zero) empty))
