@@ -1,0 +1,6 @@
+pub mod Anys
+pub mod Wildcards
+pub mod Refused
+pub mod Tagged
+pub mod Walk
+pub mod Found

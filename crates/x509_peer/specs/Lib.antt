@@ -1,0 +1,5 @@
+pub mod DnsName
+pub mod Address
+pub mod Peer
+pub mod Texts
+pub mod Naming
