@@ -451,7 +451,4 @@ if has python3 "the caller in Python, and wide and deep values"; then
     wants "C, each allocation refused of wide and deep values" 0 "$folder/calls.txt" "$folder/refuse_memory" "${files[@]}" "$folder/rows" "$folder/answers"
 fi
 "$top/tools/gate/test_install.sh" || failed=1
-if has python3 "packages over the library, installed and removed" && has dpkg-deb "packages over the library, installed and removed"; then
-    env -u X509_LIBRARY -u CARGO_TARGET_DIR python3 -B "$gate/test_release.py" --over "$folder" || failed=1
-fi
 exit "$failed"
