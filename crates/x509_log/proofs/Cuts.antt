@@ -64,11 +64,11 @@ unfolding all_good
 good_left good [] e behind g = g.1
 good_left good (x ∷ before) e behind g = (g.0, good_left good before e behind g.1)
 
-good_where : (xs : List Extension) → all_good extension.good xs → IfSome (where_any xs) extensions.good
+pub good_where : (xs : List Extension) → all_good extension.good xs → IfSome (where_any xs) extensions.good
 good_where [] g = tt
 good_where (x ∷ xs) g = g
 
-good_members : (list : Option (List Extension)) → IfSome list extensions.good → all_good extension.good (members list)
+pub good_members : (list : Option (List Extension)) → IfSome list extensions.good → all_good extension.good (members list)
 unfolding all_good
 good_members None g = tt
 good_members (Some xs) g = g
@@ -161,11 +161,11 @@ module _ {P : Type 0} (check : List ℕ → Result Unit ErrorKind) where
         omega (arith, whole, was)
 
     -- what was cut spells the value without the extension
-    pub cut_spells : (p : LoggedPart) → tbs_elements p.fields ≡ tbs_spellings part → member_octets p ≡ joined (spelling extension) (before ++ behind)
+    pub cut_spells : (p : LoggedPart) → tbs_elements p.fields ≡ tbs_spellings part → member_octets p.members ≡ joined (spelling extension) (before ++ behind)
         → Spells (tbs_certificate check) (without oid part) (part_octets p)
     cut_spells p fields pieces =
         let same : part_octets p ≡ tbs_octets (record (tbs_spellings part) { extensions = list_of_members (joined (spelling extension) (before ++ behind)) }) =
-        ap (λ (t : TbsElements). tbs_octets (record t { extensions = list_of_members (member_octets p) })) fields
+        ap (λ (t : TbsElements). tbs_octets (record t { extensions = list_of_members (member_octets p.members) })) fields
         ∙ ap (λ (m : List ℕ). tbs_octets (record (tbs_spellings part) { extensions = list_of_members m })) pieces in
         (good_is, same ∙ sym octets_are, rw same within_is)
 
@@ -173,7 +173,7 @@ module _ {P : Type 0} (check : List ℕ → Result Unit ErrorKind) where
 pub cut_found : {P : Type 0} (check : List ℕ → Result Unit ErrorKind) (value : CertificateInner P) (bytes : List ℕ) → Spells (certificate check) value bytes
     → (oid : List ℕ) (before : List Extension) (e : Extension) (behind : List Extension) → members value.tbs_certificate.extensions ≡ before ++ e ∷ behind
     → with_oid oid before ≡ [] → bytes_eq e.extn_id oid ≡ true → with_oid oid behind ≡ []
-    → (p : LoggedPart) → tbs_elements p.fields ≡ tbs_spellings value.tbs_certificate → member_octets p ≡ joined (spelling extension) (before ++ behind)
+    → (p : LoggedPart) → tbs_elements p.fields ≡ tbs_spellings value.tbs_certificate → member_octets p.members ≡ joined (spelling extension) (before ++ behind)
     → HasOne oid value.tbs_certificate × Spells (tbs_certificate check) (without oid value.tbs_certificate) (part_octets p)
 cut_found check value bytes spells oid before e behind split none is alone p fields pieces =
     let s = (stands check value bytes spells).1 in (

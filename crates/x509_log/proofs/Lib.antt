@@ -4,3 +4,8 @@ mod Places
 mod Alike
 mod Found
 mod Chains
+mod Changes
+mod Emptiness
+mod ChangedMembers
+mod Reissues
+mod Purposes

@@ -6,3 +6,4 @@ pub mod Vectors
 pub mod Entries
 pub mod TreeHead
 pub mod Embedded
+pub mod Signing

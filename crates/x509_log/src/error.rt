@@ -10,7 +10,8 @@ use x509_sct::{Error as SctError, TlsError};
 /// Why a call on a certificate that is logged was refused.
 #[derive(Clone, Copy, Debug, PartialEq, Eq, thiserror::Error)]
 pub enum LogError {
-    /// The certificate hasn't the extension that is to be left out: no SCTs, or no poison.
+    /// The certificate hasn't the extension that is to be left out: no SCTs, or no poison. Or the precertificate signing certificate hasn't the
+    /// authority key identifier that the precertificate has (RFC 6962 3.2).
     #[error("Absent")]
     Absent,
 

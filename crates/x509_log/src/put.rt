@@ -3,7 +3,9 @@
 ghost use Rattle.x509_der.specs.Element.{element};
 ghost use Rattle.x509_der.specs.Writing.{Puts};
 
-use x509_der::{Error, PutPart, Room, put_header};
+use crate::members::KeyIdentifier;
+use x509_der::{AssociatedOid, Error, PutPart, Room, defaulted, put_header};
+use x509_ext::pkix::AuthorityKeyIdentifier;
 
 /// Octets, as they stand.
 #[derive(Clone, Copy)]
@@ -84,7 +86,7 @@ impl PutPart for Explicit<'_> {
 
 /// A part in an element of its own.
 #[derive(Clone, Copy)]
-struct InElement<P>(u8, P);
+pub(crate) struct InElement<P>(pub(crate) u8, pub(crate) P);
 
 impl<P: PutPart> PutPart for InElement<P> {
     ghost use Rattle.x509_der.specs.Element.{element};
@@ -99,29 +101,26 @@ impl<P: PutPart> PutPart for InElement<P> {
     }
 }
 
-/// {3}Extensions?: the list of these members, one after the other, in its tag; nothing where there are none.
+/// An authority key identifier, or nothing.
 #[derive(Clone, Copy)]
-pub(crate) struct MemberList<'a> {
-    pub(crate) before: &'a [u8],
-    pub(crate) behind: &'a [u8],
-}
+pub(crate) struct Changed<'a>(pub(crate) Option<KeyIdentifier<'a>>);
 
-impl PutPart for MemberList<'_> {
-    ghost use Rattle.std.specs.Prelude.{None, ◌++◌};
-    ghost use Rattle.x509_der.specs.Element.{element};
-    ghost use Rattle.x509_der.specs.Frames.{optional_octets};
-    ghost use Rattle.x509_log.specs.Logged.{list_of_members};
+impl PutPart for Changed<'_> {
+    ghost use Rattle.std.specs.Prelude.{None};
+    ghost use Rattle.x509_log.specs.Logged.{changed_octets};
 
-    ghost text = { λ list. optional_octets (element 0xA3) (list_of_members (list.before.now ++ list.behind.now)) };
+    ghost text = { λ part. changed_octets part.0 };
 
-    ghost refusal = { λ list. None };
+    ghost refusal = { λ part. None };
 
-    #[tactic(auto, using(x509_der::specs::WritingLaws::puts_nothing, crate::specs::Logged::no_list, crate::specs::Logged::some_before, crate::specs::Logged::some_behind))]
+    #[tactic(auto, unfolding(x509_ext::specs::Extension::extension_fields, x509_der::specs::Frames::fields_octets), using(x509_der::specs::WritingLaws::puts_nothing))]
     fn put_part<R: Room>(&self, room: &mut R) -> Result<(), Error> {
-        if self.before.is_empty() && self.behind.is_empty() {
+        let Some(identifier) = self.0 else {
             return Ok(());
-        }
-        let members = (Octets(self.before), Octets(self.behind));
-        put_in_element(&InElement(0x30, members), 0xA3, room)
+        };
+        let oid = AuthorityKeyIdentifier::OID;
+        let value = InElement(0x04, Octets(identifier.value));
+        let fields = (&oid, (defaulted(&identifier.critical), value));
+        put_in_element(&fields, 0x30, room)
     }
 }

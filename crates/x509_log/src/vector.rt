@@ -74,7 +74,7 @@ impl TlsByteVecU24 {
 ///
 /// `EndOfStream` exactly where bytes are missing.
 #[tactic(auto, unfolding(x509_sct::specs::FieldReading::octets_at, x509_sct::specs::FieldReading::number_at, x509_sct::specs::FieldReading::counted_at))]
-pub(crate) fn take_counted(bytes: &[u8]) -> Result<(&[u8], &[u8]), TlsError>
+pub fn take_counted(bytes: &[u8]) -> Result<(&[u8], &[u8]), TlsError>
     ensures exact { GivesBy (λ x. (x.0.now, x.1.now)) result (counted_at uint24.reading bytes.now) }
     ensures err { IfErr result (λ e. e ≡ EndOfStream) }
     ensures short { IfOk result (λ x. length x.0.now ≤ 16777215) }

@@ -23,6 +23,8 @@ returns-then-has_oid c =
       split = inv.1 ∙ ap (λ l. inv.0 ++ l) c.in-Some.ensures.steps;
       first = inv.2;
       has = has;
+      critical = refl;
+      value = refl;
       before_is = prefix_is c.as_bytes-all.result.now _ (extensions_left c.args.list) inv.0 (extensions_left c.loop-extension.rest) c.as_bytes-all.ensures refl inv.1 c.loop-extension.place inv.3;
     }
 
