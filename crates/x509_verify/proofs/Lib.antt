@@ -1,0 +1,10 @@
+pub mod Entries
+pub mod Gathering
+pub mod Keys
+pub mod Climbing
+pub mod Signing
+pub mod SigningSteps
+pub mod Searching
+pub mod Attempting
+pub mod Deepening
+pub mod OnPath

@@ -1,0 +1,63 @@
+use Rattle.std.proofs.Common.{◌≡◌, ◌∙◌, ℕ, List, get_or, refl, sym, ap, subst}
+use Rattle.std.proofs.lemmas.Grind.{not_there}
+use Rattle.std.specs.List.{All, Contains}
+use Rattle.std.specs.Prelude.{MatchOption, true}
+use Rattle.x509_match.specs.declared.key.MatchedName.{MatchedName}
+use Rattle.x509_validation.specs.declared.trusted.Trusted.{Trusted}
+use Rattle.x509_verify.specs.Found.{IsFound, octets}
+use Rattle.x509_verify.specs.Named.{IsUnderName}
+use Rattle.x509_verify.specs.Progress.{AreTried, IsTriedUnder}
+use Rattle.x509_verify.specs.declared.keyed.Keyed.{Keyed}
+use Rattle.x509_verify.proofs.Keys.{each_element, each_further, to_map}
+use Rattle.x509_verify.proofs.Searching.{all_tried, despite, later}
+use Rattle.x509_verify.proofs.search.Search.attempt_all.Goals as goal
+
+abbrev value_of : Keyed MatchedName Trusted → Trusted
+value_of entry = entry.value
+
+pub returns-in-Some : goal.returns-in-Some
+returns-in-Some g c = λ wanted searched on knows right.
+    let accepts = g.V.SliceVerifier.accepts c.args.self.now.verifier.now in
+    let known = c.loop-entry.invariant wanted searched on right in
+    let there = c.under_key-named.ensures.some c.entry-item.result (c.loop-entry.entry-index, c.loop-entry-test.true, sym c.entry-item.is) in
+    let among = to_map value_of c.args.self.now.anchors.now.entries.items c.entry-item.result (subst (λ (xs : List (Keyed MatchedName Trusted)). Contains xs c.entry-item.result) c.as_slice.ensures.value there) in
+    let goes = c.in_ok-found.ensures wanted searched.settings (subst (λ ts. Contains ts c.entry-item.result.value) (sym searched.trusted) among) on known.right in record {
+      right = goes.right;
+      noted = λ was. goes.noted (known.noted was);
+      answer = subst (λ o. MatchOption o (IsTriedUnder accepts wanted c.entry-item.result.value (octets c.args.path.now) c.attempt.new.progress.refusal) (λ it. IsFound accepts wanted it)) c.in-Some.is goes.answer;
+    }
+
+pub loop-entry-preserved : goal.loop-entry-preserved
+loop-entry-preserved g c = λ wanted searched on right.
+    let accepts = g.V.SliceVerifier.accepts c.args.self.now.verifier.now in
+    let path = octets c.args.path.now in
+    let after = c.attempt.new.progress.refusal in
+    let known = c.loop-entry.invariant wanted searched on right in
+    let there = c.under_key-named.ensures.some c.entry-item.result (c.loop-entry.entry-index, c.loop-entry-test.true, sym c.entry-item.is) in
+    let among = to_map value_of c.args.self.now.anchors.now.entries.items c.entry-item.result (subst (λ (xs : List (Keyed MatchedName Trusted)). Contains xs c.entry-item.result) c.as_slice.ensures.value there) in
+    let goes = c.in_ok-found.ensures wanted searched.settings (subst (λ ts. Contains ts c.entry-item.result.value) (sym searched.trusted) among) on known.right in record {
+      right = goes.right;
+      noted = λ was. goes.noted (known.noted was);
+      tried = each_further (λ entry. IsTriedUnder accepts wanted entry.value path after) c.under_key-named.result.now c.loop-entry.entry-index c.entry-item.result c.loop-entry-test.true
+          (λ k d less. later accepts wanted (get_or c.under_key-named.result.now k d).value path c.loop-entry.progress.refusal after goes.noted (known.tried k d less))
+          (subst (λ (e : Keyed MatchedName Trusted). IsTriedUnder accepts wanted e.value path after) c.entry-item.is
+          (subst (λ o. MatchOption o (IsTriedUnder accepts wanted c.entry-item.result.value path after) (λ it. IsFound accepts wanted it)) c.in_default.is goes.answer));
+    }
+
+pub returns : goal.returns
+returns g c = λ wanted searched on knows right.
+    let accepts = g.V.SliceVerifier.accepts c.args.self.now.verifier.now in
+    let path = octets c.args.path.now in
+    let known = c.loop-entry.invariant wanted searched on right in
+    let refusal = c.loop-entry.progress.refusal in
+    let entries = c.as_slice.result.now in record {
+      right = known.right;
+      noted = known.noted;
+      answer = λ trusted among. despite accepts wanted trusted path refusal (not_there c.args.self.now.anchors.now.named) (λ under.
+          despite accepts wanted trusted path refusal knows (λ has.
+          all_tried accepts wanted refusal c.bytes_determine_the_name.ensures _ c.keys_are_equal_where_names_match.ensures.names c.args.self.now.anchors.now.entries.items c.under_key-named.result.now c.args.issuer.now path
+          searched.trusted under has
+          (λ entry within same. c.under_key-named.ensures.every entry (subst (λ (xs : List (Keyed MatchedName Trusted)). Contains xs entry) (sym c.as_slice.ensures.value) within) same)
+          (each_element (λ entry. IsTriedUnder accepts wanted entry.value path refusal) c.under_key-named.result.now c.loop-entry.entry-index c.loop-entry-test.false known.tried)
+          trusted among));
+    }

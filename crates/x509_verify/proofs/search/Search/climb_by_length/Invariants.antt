@@ -1,0 +1,14 @@
+use Rattle.std.proofs.Common.{◌≡◌, ◌∷◌, ◌-◌, [], None}
+use Rattle.std.specs.List.{All}
+use Rattle.x509_verify.specs.Found.{Wanted, octets}
+use Rattle.x509_verify.specs.Progress.{AreTriedBelow, IsAnswer, IsRight, IsSearched, KnowsIssuer, up_to}
+use Rattle.x509_verify.proofs.search.Search.climb_by_length.Given as goal
+
+-- what is known is right, and shorter paths were tried
+abbrev pub invariant-loop-depth : goal.invariant-loop-depth
+invariant-loop-depth g l =
+    (wanted : Wanted) → IsSearched l.self.settings.now l.self.anchors.now l.self.pool.now wanted → wanted.max_depth ≡ l.max_depth → octets l.path ≡ wanted.leaf ∷ [] → KnowsIssuer (octets l.path) l.issuer
+    → All (IsAnswer (g.V.SliceVerifier.accepts l.self.verifier.now)) l.initial.progress.asked.items → l.initial.progress.refusal ≡ None → record {
+      right : IsRight (g.V.SliceVerifier.accepts l.self.verifier.now) (up_to wanted (l.depth - 1)) l.progress;
+      below : AreTriedBelow (g.V.SliceVerifier.accepts l.self.verifier.now) wanted l.depth l.progress.refusal;
+    }

@@ -1,0 +1,5 @@
+pub mod Keyed
+pub mod Named
+pub mod Given
+pub mod Found
+pub mod Progress

@@ -1,0 +1,5 @@
+//! Tests of paths that are found.
+#![tactic(auto)]
+
+#[cfg(test)]
+mod found;
