@@ -626,8 +626,7 @@ x509_status x509_certificate_signature(const uint8_t *in, size_t len, x509_signa
 #define X509_PATH_ALGORITHM 2
 /* The issuer isn't the subject of the certificate above, byte for byte. */
 #define X509_PATH_ISSUER 3
-/* The time is before the first or after the last second of the validity. x509_certificate_view tells on which side: before `not_before` the certificate isn't
- * valid yet, else it has expired. */
+/* The time is before the first or after the last second of the validity. */
 #define X509_PATH_MOMENT 4
 /* The signature isn't accepted. x509_path_check never answers it: it is for the caller, who verifies signatures. */
 #define X509_PATH_SIGNATURE 5

@@ -72,8 +72,8 @@ pub use name::{
 };
 pub use oid::ObjectIdentifier;
 pub use path::{
-    check_path, validate_path, working_key, FaultReason, OutOfDate, PathError, PathFault,
-    PathSettings, Trusted, Validated, Verifier,
+    check_path, validate_path, working_key, FaultReason, PathError, PathFault, PathSettings,
+    Trusted, Validated, Verifier,
 };
 pub use revocation::{
     may_sign_crls, path_revocation_statuses, revocation_status, RevocationSettings,

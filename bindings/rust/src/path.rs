@@ -114,33 +114,6 @@ pub struct PathFault {
     pub reason: FaultReason,
 }
 
-/// On which side of a validity a moment is.
-#[derive(Clone, Copy, Debug, PartialEq, Eq, PartialOrd, Ord, Hash)]
-pub enum OutOfDate {
-    /// It is before the first second: the certificate isn't valid yet.
-    NotYetValid,
-
-    /// It is after the last second: the certificate has expired.
-    Expired,
-}
-
-impl PathFault {
-    /// Of a fault [`Moment`](FaultReason::Moment) that a path has at the moment, on which side of the certificate's validity that is; `None` of other faults, and
-    /// where the path has no certificate that isn't valid then at that place.
-    pub fn out_of_date<B: AsRef<[u8]>>(&self, path: &[B], moment: SystemTime) -> Option<OutOfDate> {
-        if self.reason != FaultReason::Moment {
-            return None;
-        }
-        let certificate = CertificateRef::from_der(path.get(self.place)?.as_ref()).ok()?;
-        let validity = certificate.validity();
-        let moment = seconds(moment).ok()?;
-        if moment < seconds(validity.not_before).ok()? {
-            return Some(OutOfDate::NotYetValid);
-        }
-        (seconds(validity.not_after).ok()? < moment).then_some(OutOfDate::Expired)
-    }
-}
-
 impl fmt::Display for PathFault {
     fn fmt(&self, f: &mut fmt::Formatter<'_>) -> fmt::Result {
         write!(f, "certificate {} {}", self.place, self.reason.text())

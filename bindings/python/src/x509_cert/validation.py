@@ -96,7 +96,7 @@ def validate_path(
     words = (b"".join(given), lens, ctypes.c_size_t(len(given)), _constraints(name_constraints), _accepted(policies))
     answer, status, found = _asked(call, *trusted, *words, ctypes.byref(settings), ctypes.c_size_t(ctypes.sizeof(settings)))
     fault = (int(answer.place), int(answer.reason)) if status == FAULT else None
-    certificates, key = _verified(key, given, settings.moment, fault, verify, working_key)
+    certificates, key = _verified(key, given, fault, verify, working_key)
     valid = tuple(it.policy_identifier for it in CertificatePolicies.from_der(found))
     return ValidatedPath(tuple(certificates), Name(answer.name.of(given[-1])), key, valid)
 
