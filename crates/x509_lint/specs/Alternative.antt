@@ -1,5 +1,5 @@
 -- The rules on the alternative names of the subject and the issuer (RFC 5280 4.2.1.6, 4.2.1.7): what breaks each, their order, and how each is told.
-use Rattle.std.specs.Prelude.{Option, ◌&&◌, ◌||◌, ◌==◌, ◌-◌, ℕ, Bool, true, false, not, nat_le, List, [], ◌∷◌, length, codes, if◌then◌else◌}
+use Rattle.std.specs.Prelude.{Option, ◌&&◌, ◌||◌, ◌==◌, ℕ, Bool, true, false, not, nat_le, List, [], ◌∷◌, length, codes, if◌then◌else◌}
 use Rattle.std.specs.List.{list_all, list_any, slice_get, slice_split}
 use Rattle.x509_ext.specs.declared.pkix.name.general_name.GeneralName.{GeneralName}
 use Rattle.x509_ext.specs.declared.pkix.name.general_name.GeneralName.TheVariants.{OtherName, Rfc822Name, DnsName, DirectoryName, EdiPartyName, UniformResourceIdentifier, IpAddress, RegisteredId}
@@ -12,8 +12,8 @@ use Rattle.x509_lint.specs.Uri.{has_other_host, is_absolute, is_uri}
 use Rattle.x509_lint.specs.Words.{Certificate, extensions_of, has, is_empty, passes}
 use Rattle.x509_lint.specs.declared.values.AlternativeValues.{AlternativeValues}
 use Rattle.x509_lint.specs.declared.rule.alternative.AlternativeRule.{AlternativeRule}
-use Rattle.x509_lint.specs.declared.rule.alternative.AlternativeRule.TheVariants.{SubjectEmailNotInAltName, SubjectAltNameEmpty, SubjectAltNameEmptyName, SubjectAltNameDnsNameInvalid, SubjectAltNameAddressLength, SubjectAltNameMailboxInvalid, SubjectAltNameUriRelative, SubjectAltNameUriInvalid, SubjectAltNameUriHostInvalid, IssuerAltNameEmpty, IssuerAltNameEmptyName, IssuerAltNameDnsNameInvalid, IssuerAltNameAddressLength, IssuerAltNameMailboxInvalid, IssuerAltNameUriRelative, IssuerAltNameUriInvalid, IssuerAltNameUriHostInvalid}
-use Rattle.x509_lint.specs.Wording.{Wording, must}
+use Rattle.x509_lint.specs.declared.rule.alternative.AlternativeRule.TheVariants as rules
+use Rattle.x509_lint.specs.Sentence.{Sentence, must}
 
 -- ---- general names (RFC 5280 4.2.1.6)
 
@@ -116,45 +116,77 @@ abbrev pub is_at_other_host : GeneralName → Bool
 is_at_other_host (UniformResourceIdentifier text) = is_absolute text && has_other_host text
 is_at_other_host other = false
 
-abbrev pub breaks_alternative : Certificate → AlternativeValues → AlternativeRule → Bool
-breaks_alternative c v SubjectEmailNotInAltName = has_email c.tbs_certificate.subject && lacks_mailbox (extensions_of c) v.subject_alt_name
-breaks_alternative c v SubjectAltNameEmpty = passes (λ s. is_empty s.0) v.subject_alt_name
-breaks_alternative c v SubjectAltNameEmptyName = passes (λ s. list_any is_empty_name s.0) v.subject_alt_name
-breaks_alternative c v SubjectAltNameDnsNameInvalid = passes (λ s. list_any is_no_dns_name s.0) v.subject_alt_name
-breaks_alternative c v SubjectAltNameAddressLength = passes (λ s. list_any is_no_address s.0) v.subject_alt_name
-breaks_alternative c v SubjectAltNameMailboxInvalid = passes (λ s. list_any is_no_mailbox s.0) v.subject_alt_name
-breaks_alternative c v SubjectAltNameUriRelative = passes (λ s. list_any is_relative s.0) v.subject_alt_name
-breaks_alternative c v SubjectAltNameUriInvalid = passes (λ s. list_any is_no_uri s.0) v.subject_alt_name
-breaks_alternative c v SubjectAltNameUriHostInvalid = passes (λ s. list_any is_at_other_host s.0) v.subject_alt_name
-breaks_alternative c v IssuerAltNameEmpty = passes (λ s. is_empty s.0) v.issuer_alt_name
-breaks_alternative c v IssuerAltNameEmptyName = passes (λ s. list_any is_empty_name s.0) v.issuer_alt_name
-breaks_alternative c v IssuerAltNameDnsNameInvalid = passes (λ s. list_any is_no_dns_name s.0) v.issuer_alt_name
-breaks_alternative c v IssuerAltNameAddressLength = passes (λ s. list_any is_no_address s.0) v.issuer_alt_name
-breaks_alternative c v IssuerAltNameMailboxInvalid = passes (λ s. list_any is_no_mailbox s.0) v.issuer_alt_name
-breaks_alternative c v IssuerAltNameUriRelative = passes (λ s. list_any is_relative s.0) v.issuer_alt_name
-breaks_alternative c v IssuerAltNameUriInvalid = passes (λ s. list_any is_no_uri s.0) v.issuer_alt_name
-breaks_alternative c v IssuerAltNameUriHostInvalid = passes (λ s. list_any is_at_other_host s.0) v.issuer_alt_name
-
--- ---- the order, and how each is told
+-- ---- the rules, in their order
 
 abbrev pub alternative_rules : List AlternativeRule
-alternative_rules = SubjectEmailNotInAltName ∷ SubjectAltNameEmpty ∷ SubjectAltNameEmptyName ∷ SubjectAltNameDnsNameInvalid ∷ SubjectAltNameAddressLength ∷ SubjectAltNameMailboxInvalid ∷ SubjectAltNameUriRelative ∷ SubjectAltNameUriInvalid ∷ SubjectAltNameUriHostInvalid ∷ IssuerAltNameEmpty ∷ IssuerAltNameEmptyName ∷ IssuerAltNameDnsNameInvalid ∷ IssuerAltNameAddressLength ∷ IssuerAltNameMailboxInvalid ∷ IssuerAltNameUriRelative ∷ IssuerAltNameUriInvalid ∷ IssuerAltNameUriHostInvalid ∷ []
+alternative_rules =
+    rules.SubjectEmailNotInAltName
+    ∷ rules.SubjectAltNameEmpty
+    ∷ rules.SubjectAltNameEmptyName
+    ∷ rules.SubjectAltNameDnsNameInvalid
+    ∷ rules.SubjectAltNameAddressLength
+    ∷ rules.SubjectAltNameMailboxInvalid
+    ∷ rules.SubjectAltNameUriRelative
+    ∷ rules.SubjectAltNameUriInvalid
+    ∷ rules.SubjectAltNameUriHostInvalid
+    ∷ rules.IssuerAltNameEmpty
+    ∷ rules.IssuerAltNameEmptyName
+    ∷ rules.IssuerAltNameDnsNameInvalid
+    ∷ rules.IssuerAltNameAddressLength
+    ∷ rules.IssuerAltNameMailboxInvalid
+    ∷ rules.IssuerAltNameUriRelative
+    ∷ rules.IssuerAltNameUriInvalid
+    ∷ rules.IssuerAltNameUriHostInvalid ∷ []
 
-abbrev pub alternative_wording : AlternativeRule → Wording
-alternative_wording SubjectEmailNotInAltName = must (codes "subject_email_not_in_alt_name") (codes "4.1.2.6") (codes "tbsCertificate.extensions.subjectAltName")
-alternative_wording SubjectAltNameEmpty = must (codes "subject_alt_name_empty") (codes "4.2.1.6") (codes "tbsCertificate.extensions.subjectAltName")
-alternative_wording SubjectAltNameEmptyName = must (codes "subject_alt_name_empty_name") (codes "4.2.1.6") (codes "tbsCertificate.extensions.subjectAltName")
-alternative_wording SubjectAltNameDnsNameInvalid = must (codes "subject_alt_name_dns_name_invalid") (codes "4.2.1.6") (codes "tbsCertificate.extensions.subjectAltName")
-alternative_wording SubjectAltNameAddressLength = must (codes "subject_alt_name_address_length") (codes "4.2.1.6") (codes "tbsCertificate.extensions.subjectAltName")
-alternative_wording SubjectAltNameMailboxInvalid = must (codes "subject_alt_name_mailbox_invalid") (codes "4.2.1.6") (codes "tbsCertificate.extensions.subjectAltName")
-alternative_wording SubjectAltNameUriRelative = must (codes "subject_alt_name_uri_relative") (codes "4.2.1.6") (codes "tbsCertificate.extensions.subjectAltName")
-alternative_wording SubjectAltNameUriInvalid = must (codes "subject_alt_name_uri_invalid") (codes "4.2.1.6") (codes "tbsCertificate.extensions.subjectAltName")
-alternative_wording SubjectAltNameUriHostInvalid = must (codes "subject_alt_name_uri_host_invalid") (codes "4.2.1.6") (codes "tbsCertificate.extensions.subjectAltName")
-alternative_wording IssuerAltNameEmpty = must (codes "issuer_alt_name_empty") (codes "4.2.1.7") (codes "tbsCertificate.extensions.issuerAltName")
-alternative_wording IssuerAltNameEmptyName = must (codes "issuer_alt_name_empty_name") (codes "4.2.1.7") (codes "tbsCertificate.extensions.issuerAltName")
-alternative_wording IssuerAltNameDnsNameInvalid = must (codes "issuer_alt_name_dns_name_invalid") (codes "4.2.1.7") (codes "tbsCertificate.extensions.issuerAltName")
-alternative_wording IssuerAltNameAddressLength = must (codes "issuer_alt_name_address_length") (codes "4.2.1.7") (codes "tbsCertificate.extensions.issuerAltName")
-alternative_wording IssuerAltNameMailboxInvalid = must (codes "issuer_alt_name_mailbox_invalid") (codes "4.2.1.7") (codes "tbsCertificate.extensions.issuerAltName")
-alternative_wording IssuerAltNameUriRelative = must (codes "issuer_alt_name_uri_relative") (codes "4.2.1.7") (codes "tbsCertificate.extensions.issuerAltName")
-alternative_wording IssuerAltNameUriInvalid = must (codes "issuer_alt_name_uri_invalid") (codes "4.2.1.7") (codes "tbsCertificate.extensions.issuerAltName")
-alternative_wording IssuerAltNameUriHostInvalid = must (codes "issuer_alt_name_uri_host_invalid") (codes "4.2.1.7") (codes "tbsCertificate.extensions.issuerAltName")
+abbrev pub alternative_sentence : AlternativeRule → Sentence Certificate AlternativeValues
+alternative_sentence rules.SubjectEmailNotInAltName =
+    must (codes "subject_email_not_in_alt_name") (codes "4.1.2.6") (codes "tbsCertificate.extensions.subjectAltName")
+    (λ c v. has_email c.tbs_certificate.subject && lacks_mailbox (extensions_of c) v.subject_alt_name)
+alternative_sentence rules.SubjectAltNameEmpty =
+    must (codes "subject_alt_name_empty") (codes "4.2.1.6") (codes "tbsCertificate.extensions.subjectAltName")
+    (λ c v. passes (λ s. is_empty s.0) v.subject_alt_name)
+alternative_sentence rules.SubjectAltNameEmptyName =
+    must (codes "subject_alt_name_empty_name") (codes "4.2.1.6") (codes "tbsCertificate.extensions.subjectAltName")
+    (λ c v. passes (λ s. list_any is_empty_name s.0) v.subject_alt_name)
+alternative_sentence rules.SubjectAltNameDnsNameInvalid =
+    must (codes "subject_alt_name_dns_name_invalid") (codes "4.2.1.6") (codes "tbsCertificate.extensions.subjectAltName")
+    (λ c v. passes (λ s. list_any is_no_dns_name s.0) v.subject_alt_name)
+alternative_sentence rules.SubjectAltNameAddressLength =
+    must (codes "subject_alt_name_address_length") (codes "4.2.1.6") (codes "tbsCertificate.extensions.subjectAltName")
+    (λ c v. passes (λ s. list_any is_no_address s.0) v.subject_alt_name)
+alternative_sentence rules.SubjectAltNameMailboxInvalid =
+    must (codes "subject_alt_name_mailbox_invalid") (codes "4.2.1.6") (codes "tbsCertificate.extensions.subjectAltName")
+    (λ c v. passes (λ s. list_any is_no_mailbox s.0) v.subject_alt_name)
+alternative_sentence rules.SubjectAltNameUriRelative =
+    must (codes "subject_alt_name_uri_relative") (codes "4.2.1.6") (codes "tbsCertificate.extensions.subjectAltName")
+    (λ c v. passes (λ s. list_any is_relative s.0) v.subject_alt_name)
+alternative_sentence rules.SubjectAltNameUriInvalid =
+    must (codes "subject_alt_name_uri_invalid") (codes "4.2.1.6") (codes "tbsCertificate.extensions.subjectAltName")
+    (λ c v. passes (λ s. list_any is_no_uri s.0) v.subject_alt_name)
+alternative_sentence rules.SubjectAltNameUriHostInvalid =
+    must (codes "subject_alt_name_uri_host_invalid") (codes "4.2.1.6") (codes "tbsCertificate.extensions.subjectAltName")
+    (λ c v. passes (λ s. list_any is_at_other_host s.0) v.subject_alt_name)
+alternative_sentence rules.IssuerAltNameEmpty =
+    must (codes "issuer_alt_name_empty") (codes "4.2.1.7") (codes "tbsCertificate.extensions.issuerAltName")
+    (λ c v. passes (λ s. is_empty s.0) v.issuer_alt_name)
+alternative_sentence rules.IssuerAltNameEmptyName =
+    must (codes "issuer_alt_name_empty_name") (codes "4.2.1.7") (codes "tbsCertificate.extensions.issuerAltName")
+    (λ c v. passes (λ s. list_any is_empty_name s.0) v.issuer_alt_name)
+alternative_sentence rules.IssuerAltNameDnsNameInvalid =
+    must (codes "issuer_alt_name_dns_name_invalid") (codes "4.2.1.7") (codes "tbsCertificate.extensions.issuerAltName")
+    (λ c v. passes (λ s. list_any is_no_dns_name s.0) v.issuer_alt_name)
+alternative_sentence rules.IssuerAltNameAddressLength =
+    must (codes "issuer_alt_name_address_length") (codes "4.2.1.7") (codes "tbsCertificate.extensions.issuerAltName")
+    (λ c v. passes (λ s. list_any is_no_address s.0) v.issuer_alt_name)
+alternative_sentence rules.IssuerAltNameMailboxInvalid =
+    must (codes "issuer_alt_name_mailbox_invalid") (codes "4.2.1.7") (codes "tbsCertificate.extensions.issuerAltName")
+    (λ c v. passes (λ s. list_any is_no_mailbox s.0) v.issuer_alt_name)
+alternative_sentence rules.IssuerAltNameUriRelative =
+    must (codes "issuer_alt_name_uri_relative") (codes "4.2.1.7") (codes "tbsCertificate.extensions.issuerAltName")
+    (λ c v. passes (λ s. list_any is_relative s.0) v.issuer_alt_name)
+alternative_sentence rules.IssuerAltNameUriInvalid =
+    must (codes "issuer_alt_name_uri_invalid") (codes "4.2.1.7") (codes "tbsCertificate.extensions.issuerAltName")
+    (λ c v. passes (λ s. list_any is_no_uri s.0) v.issuer_alt_name)
+alternative_sentence rules.IssuerAltNameUriHostInvalid =
+    must (codes "issuer_alt_name_uri_host_invalid") (codes "4.2.1.7") (codes "tbsCertificate.extensions.issuerAltName")
+    (λ c v. passes (λ s. list_any is_at_other_host s.0) v.issuer_alt_name)

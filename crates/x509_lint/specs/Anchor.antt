@@ -1,5 +1,5 @@
 -- The rules on trust anchors (RFC 5914 2, RFC 5280 4.1.2.4, 4.2): what breaks each, their order, and how each is told.
-use Rattle.std.specs.Prelude.{◌≢◌, ◌↔◌, ◌&&◌, ◌==◌, IsTrue, ℕ, Bool, not, List, [], ◌∷◌, ◌++◌, length, Option, Some, None, bytes_eq, codes, is_some, map}
+use Rattle.std.specs.Prelude.{◌≢◌, ◌↔◌, ◌&&◌, ◌==◌, IsTrue, ℕ, Bool, not, List, [], ◌∷◌, ◌++◌, length, Option, Some, None, bytes_eq, codes, is_some}
 use Rattle.std.specs.List.{list_all, list_any, slice_split}
 use Rattle.std.specs.Str.{chars}
 use Rattle.x509_base.specs.declared.profile.Raw.{Raw}
@@ -14,8 +14,8 @@ use Rattle.x509_ext.specs.SubjectKeyIdentifier.{subject_key_identifier}
 use Rattle.x509_ext.specs.declared.extension.Extension.{Extension}
 use Rattle.x509_ext.specs.declared.pkix.policy_information.PolicyInformation.{PolicyInformation}
 use Rattle.x509_lint.specs.Dns.{is_letter_or_digit}
-use Rattle.x509_lint.specs.Constraint.{breaks_name_constraints, constraint_rules, constraint_wording}
-use Rattle.x509_lint.specs.List.{extension_kinds, extension_text}
+use Rattle.x509_lint.specs.Constraint.{breaks_name_constraints, constraint_wording}
+use Rattle.x509_lint.specs.List.{extension_text}
 use Rattle.x509_lint.specs.Name.{has_empty_rdn, has_no_country}
 use Rattle.x509_lint.specs.Read.{AreExtensionsRead, is_read}
 use Rattle.x509_lint.specs.Text.{has_faulty_text, is_outside}
@@ -23,10 +23,13 @@ use Rattle.x509_lint.specs.Values.{policies_of, policy_identifiers}
 use Rattle.x509_lint.specs.Words.{Certificate, IsValue, extensions_of, has, is_empty, passes}
 use Rattle.x509_lint.specs.declared.anchor.values.AnchorValues.{AnchorValues}
 use Rattle.x509_lint.specs.declared.rule.anchor.AnchorRule.{AnchorRule}
-use Rattle.x509_lint.specs.declared.rule.anchor.AnchorRule.TheVariants.{TaTitleSize, TaTitleLangTagInvalid, TaNameEmpty, TaNameRdnEmpty, TaNameCountryNameInvalid, TaNameTextType, TaNameTextOldType, TaNameTextCharacters, TaNameTextSize, CertificateSubjectDiffers, CertificateKeyDiffers, CertificateKeyIdentifierDiffers, PolicySetEmpty, PolicySetRepeated, PolicySetQualifiers, NameConstraint, ExtensionsEmpty, ExtensionRepeated, CertificatePoliciesInExts, PolicyConstraintsInExts, InhibitAnyPolicyInExts, NameConstraintsInExts, ExtensionMalformed}
+use Rattle.x509_lint.specs.declared.rule.anchor.AnchorRule.TheVariants as rules
+use Rattle.x509_lint.specs.declared.rule.anchor.AnchorExtensionRule.{AnchorExtensionRule}
+use Rattle.x509_lint.specs.declared.rule.anchor.AnchorExtensionRule.TheVariants as extensions
+use Rattle.x509_lint.specs.declared.rule.constraint.ConstraintRule.{ConstraintRule}
 use Rattle.x509_lint.specs.declared.rule.list.ExtensionKind.{ExtensionKind}
 use Rattle.x509_lint.specs.declared.texts.TextFault.TheVariants.{OtherType, OldType, OtherCharacter, Size}
-use Rattle.x509_lint.specs.Wording.{Wording, must, must_of, should, should_of}
+use Rattle.x509_lint.specs.Sentence.{Sentence, must, must_of, should, should_of}
 use Rattle.x509_prim.specs.BitString.{parts_of}
 
 abbrev pub Controls : Type 0
@@ -88,64 +91,119 @@ AreAnchorValues t v =
     × (IsTrue v.is_repeated ↔ IsRepeated (members t.extensions))
     × AreExtensionsRead (members t.extensions) v.read
 
-abbrev pub breaks_anchor : Info → AnchorValues → AnchorRule → Bool
-breaks_anchor t v TaTitleSize = passes (λ title. is_outside 64 (length (chars title))) t.ta_title
-breaks_anchor t v TaTitleLangTagInvalid = passes (λ tag. not (are_subtags tag)) t.ta_title_lang_tag
-breaks_anchor t v TaNameEmpty = passes (λ c. is_empty c.ta_name) t.cert_path
-breaks_anchor t v TaNameRdnEmpty = passes (λ c. has_empty_rdn c.ta_name) t.cert_path
-breaks_anchor t v TaNameCountryNameInvalid = passes (λ c. has_no_country c.ta_name) t.cert_path
-breaks_anchor t v TaNameTextType = passes (λ c. has_faulty_text OtherType c.ta_name) t.cert_path
-breaks_anchor t v TaNameTextOldType = passes (λ c. has_faulty_text OldType c.ta_name) t.cert_path
-breaks_anchor t v TaNameTextCharacters = passes (λ c. has_faulty_text OtherCharacter c.ta_name) t.cert_path
-breaks_anchor t v TaNameTextSize = passes (λ c. has_faulty_text Size c.ta_name) t.cert_path
-breaks_anchor t v CertificateSubjectDiffers = v.subject_differs
-breaks_anchor t v CertificateKeyDiffers = v.key_differs
-breaks_anchor t v CertificateKeyIdentifierDiffers = passes (λ k. not (bytes_eq k.0 t.key_id)) v.key_identifier
-breaks_anchor t v PolicySetEmpty = passes (λ c. passes (λ p. is_empty p.0) c.policy_set) t.cert_path
-breaks_anchor t v PolicySetRepeated = not v.are_policies_distinct
-breaks_anchor t v PolicySetQualifiers = list_any (λ p. is_some p.policy_qualifiers) (policy_set t.cert_path)
-breaks_anchor t v (NameConstraint rule) = passes (λ c. passes (breaks_name_constraints rule) c.name_constr) t.cert_path
-breaks_anchor t v ExtensionsEmpty = passes is_empty t.extensions
-breaks_anchor t v ExtensionRepeated = v.is_repeated
-breaks_anchor t v CertificatePoliciesInExts = has (id_ce 32) (members t.extensions)
-breaks_anchor t v PolicyConstraintsInExts = has (id_ce 36) (members t.extensions)
-breaks_anchor t v InhibitAnyPolicyInExts = has (id_ce 54) (members t.extensions)
-breaks_anchor t v NameConstraintsInExts = has (id_ce 30) (members t.extensions)
-breaks_anchor t v (ExtensionMalformed kind) = not (is_read v.read kind)
-
--- ---- the order, and how each is told
+-- ---- the rules, in their order
 
 abbrev pub anchor_rules : List AnchorRule
 anchor_rules =
-    TaTitleSize ∷ TaTitleLangTagInvalid ∷ TaNameEmpty ∷ TaNameRdnEmpty ∷ TaNameCountryNameInvalid ∷ TaNameTextType ∷ TaNameTextOldType ∷ TaNameTextCharacters ∷ TaNameTextSize ∷ CertificateSubjectDiffers ∷ CertificateKeyDiffers ∷ CertificateKeyIdentifierDiffers ∷ PolicySetEmpty ∷ PolicySetRepeated ∷ PolicySetQualifiers
-    ∷ (map NameConstraint constraint_rules ++ ExtensionsEmpty ∷ ExtensionRepeated ∷ CertificatePoliciesInExts ∷ PolicyConstraintsInExts ∷ InhibitAnyPolicyInExts ∷ NameConstraintsInExts
-    ∷ map ExtensionMalformed extension_kinds)
+    rules.TaTitleSize
+    ∷ rules.TaTitleLangTagInvalid
+    ∷ rules.TaNameEmpty
+    ∷ rules.TaNameRdnEmpty
+    ∷ rules.TaNameCountryNameInvalid
+    ∷ rules.TaNameTextType
+    ∷ rules.TaNameTextOldType
+    ∷ rules.TaNameTextCharacters
+    ∷ rules.TaNameTextSize
+    ∷ rules.CertificateSubjectDiffers
+    ∷ rules.CertificateKeyDiffers
+    ∷ rules.CertificateKeyIdentifierDiffers
+    ∷ rules.PolicySetEmpty
+    ∷ rules.PolicySetRepeated
+    ∷ rules.PolicySetQualifiers ∷ []
+
+abbrev pub anchor_sentence : AnchorRule → Sentence Info AnchorValues
+anchor_sentence rules.TaTitleSize =
+    must_of (codes "RFC 5914") (codes "ta_title_size") (codes "2.4") (codes "taInfo.taTitle")
+    (λ t v. passes (λ title. is_outside 64 (length (chars title))) t.ta_title)
+anchor_sentence rules.TaTitleLangTagInvalid =
+    should_of (codes "RFC 5914") (codes "ta_title_lang_tag_invalid") (codes "2.4") (codes "taInfo.taTitleLangTag")
+    (λ t v. passes (λ tag. not (are_subtags tag)) t.ta_title_lang_tag)
+anchor_sentence rules.TaNameEmpty =
+    must_of (codes "RFC 5914") (codes "ta_name_empty") (codes "2.5") (codes "taInfo.certPath.taName")
+    (λ t v. passes (λ c. is_empty c.ta_name) t.cert_path)
+anchor_sentence rules.TaNameRdnEmpty =
+    must (codes "ta_name_rdn_empty") (codes "4.1.2.4") (codes "taInfo.certPath.taName")
+    (λ t v. passes (λ c. has_empty_rdn c.ta_name) t.cert_path)
+anchor_sentence rules.TaNameCountryNameInvalid =
+    must (codes "ta_name_country_name_invalid") (codes "A.1") (codes "taInfo.certPath.taName")
+    (λ t v. passes (λ c. has_no_country c.ta_name) t.cert_path)
+anchor_sentence rules.TaNameTextType =
+    must (codes "ta_name_text_type") (codes "A.1") (codes "taInfo.certPath.taName")
+    (λ t v. passes (λ c. has_faulty_text OtherType c.ta_name) t.cert_path)
+anchor_sentence rules.TaNameTextOldType =
+    should (codes "ta_name_text_old_type") (codes "4.1.2.4") (codes "taInfo.certPath.taName")
+    (λ t v. passes (λ c. has_faulty_text OldType c.ta_name) t.cert_path)
+anchor_sentence rules.TaNameTextCharacters =
+    must (codes "ta_name_text_characters") (codes "4.1.2.4") (codes "taInfo.certPath.taName")
+    (λ t v. passes (λ c. has_faulty_text OtherCharacter c.ta_name) t.cert_path)
+anchor_sentence rules.TaNameTextSize =
+    must (codes "ta_name_text_size") (codes "A.1") (codes "taInfo.certPath.taName")
+    (λ t v. passes (λ c. has_faulty_text Size c.ta_name) t.cert_path)
+anchor_sentence rules.CertificateSubjectDiffers =
+    must_of (codes "RFC 5914") (codes "certificate_subject_differs") (codes "2.5") (codes "taInfo.certPath.certificate.tbsCertificate.subject")
+    (λ t v. v.subject_differs)
+anchor_sentence rules.CertificateKeyDiffers =
+    must_of (codes "RFC 5914") (codes "certificate_key_differs") (codes "2.5") (codes "taInfo.certPath.certificate.tbsCertificate.subjectPublicKeyInfo")
+    (λ t v. v.key_differs)
+anchor_sentence rules.CertificateKeyIdentifierDiffers =
+    must_of (codes "RFC 5914") (codes "certificate_key_identifier_differs") (codes "2.5") (codes "taInfo.certPath.certificate.tbsCertificate.extensions.subjectKeyIdentifier")
+    (λ t v. passes (λ k. not (bytes_eq k.0 t.key_id)) v.key_identifier)
+anchor_sentence rules.PolicySetEmpty =
+    must (codes "policy_set_empty") (codes "4.2.1.4") (codes "taInfo.certPath.policySet")
+    (λ t v. passes (λ c. passes (λ p. is_empty p.0) c.policy_set) t.cert_path)
+anchor_sentence rules.PolicySetRepeated =
+    must (codes "policy_set_repeated") (codes "4.2.1.4") (codes "taInfo.certPath.policySet")
+    (λ t v. not v.are_policies_distinct)
+anchor_sentence rules.PolicySetQualifiers =
+    must_of (codes "RFC 5914") (codes "policy_set_qualifiers") (codes "2.5") (codes "taInfo.certPath.policySet")
+    (λ t v. list_any (λ p. is_some p.policy_qualifiers) (policy_set t.cert_path))
+
+-- ---- the rules on name constraints, at their place in the controls
+
+abbrev pub anchor_constraint_sentence : ConstraintRule → Sentence Info AnchorValues
+anchor_constraint_sentence rule = record {
+  wording = record (constraint_wording rule) { place = codes "taInfo.certPath.nameConstr" };
+  breaks = λ t v. passes (λ c. passes (breaks_name_constraints rule) c.name_constr) t.cert_path;
+}
+
+-- ---- the rules on the list of extensions, in their order
+
+abbrev pub anchor_extension_rules : List AnchorExtensionRule
+anchor_extension_rules =
+    extensions.ExtensionsEmpty
+    ∷ extensions.ExtensionRepeated
+    ∷ extensions.CertificatePoliciesInExts
+    ∷ extensions.PolicyConstraintsInExts
+    ∷ extensions.InhibitAnyPolicyInExts
+    ∷ extensions.NameConstraintsInExts ∷ []
+
+abbrev pub anchor_extension_sentence : AnchorExtensionRule → Sentence Info AnchorValues
+anchor_extension_sentence extensions.ExtensionsEmpty =
+    must (codes "extensions_empty") (codes "4.1.2.9") (codes "taInfo.exts")
+    (λ t v. passes is_empty t.extensions)
+anchor_extension_sentence extensions.ExtensionRepeated =
+    must (codes "extension_repeated") (codes "4.2") (codes "taInfo.exts")
+    (λ t v. v.is_repeated)
+anchor_extension_sentence extensions.CertificatePoliciesInExts =
+    must_of (codes "RFC 5914") (codes "certificate_policies_in_exts") (codes "2.6") (codes "taInfo.exts.certificatePolicies")
+    (λ t v. has (id_ce 32) (members t.extensions))
+anchor_extension_sentence extensions.PolicyConstraintsInExts =
+    must_of (codes "RFC 5914") (codes "policy_constraints_in_exts") (codes "2.6") (codes "taInfo.exts.policyConstraints")
+    (λ t v. has (id_ce 36) (members t.extensions))
+anchor_extension_sentence extensions.InhibitAnyPolicyInExts =
+    must_of (codes "RFC 5914") (codes "inhibit_any_policy_in_exts") (codes "2.6") (codes "taInfo.exts.inhibitAnyPolicy")
+    (λ t v. has (id_ce 54) (members t.extensions))
+anchor_extension_sentence extensions.NameConstraintsInExts =
+    must_of (codes "RFC 5914") (codes "name_constraints_in_exts") (codes "2.6") (codes "taInfo.exts.nameConstraints")
+    (λ t v. has (id_ce 30) (members t.extensions))
+
+-- ---- of each type of extension, that one of it is malformed
 
 -- where in an anchor an extension of the type stands
 abbrev pub anchor_extension_place : ExtensionKind → List ℕ
 anchor_extension_place kind = codes "taInfo.exts." ++ extension_text kind
 
-abbrev pub anchor_wording : AnchorRule → Wording
-anchor_wording TaTitleSize = must_of (codes "RFC 5914") (codes "ta_title_size") (codes "2.4") (codes "taInfo.taTitle")
-anchor_wording TaTitleLangTagInvalid = should_of (codes "RFC 5914") (codes "ta_title_lang_tag_invalid") (codes "2.4") (codes "taInfo.taTitleLangTag")
-anchor_wording TaNameEmpty = must_of (codes "RFC 5914") (codes "ta_name_empty") (codes "2.5") (codes "taInfo.certPath.taName")
-anchor_wording TaNameRdnEmpty = must (codes "ta_name_rdn_empty") (codes "4.1.2.4") (codes "taInfo.certPath.taName")
-anchor_wording TaNameCountryNameInvalid = must (codes "ta_name_country_name_invalid") (codes "A.1") (codes "taInfo.certPath.taName")
-anchor_wording TaNameTextType = must (codes "ta_name_text_type") (codes "A.1") (codes "taInfo.certPath.taName")
-anchor_wording TaNameTextOldType = should (codes "ta_name_text_old_type") (codes "4.1.2.4") (codes "taInfo.certPath.taName")
-anchor_wording TaNameTextCharacters = must (codes "ta_name_text_characters") (codes "4.1.2.4") (codes "taInfo.certPath.taName")
-anchor_wording TaNameTextSize = must (codes "ta_name_text_size") (codes "A.1") (codes "taInfo.certPath.taName")
-anchor_wording CertificateSubjectDiffers = must_of (codes "RFC 5914") (codes "certificate_subject_differs") (codes "2.5") (codes "taInfo.certPath.certificate.tbsCertificate.subject")
-anchor_wording CertificateKeyDiffers = must_of (codes "RFC 5914") (codes "certificate_key_differs") (codes "2.5") (codes "taInfo.certPath.certificate.tbsCertificate.subjectPublicKeyInfo")
-anchor_wording CertificateKeyIdentifierDiffers = must_of (codes "RFC 5914") (codes "certificate_key_identifier_differs") (codes "2.5") (codes "taInfo.certPath.certificate.tbsCertificate.extensions.subjectKeyIdentifier")
-anchor_wording PolicySetEmpty = must (codes "policy_set_empty") (codes "4.2.1.4") (codes "taInfo.certPath.policySet")
-anchor_wording PolicySetRepeated = must (codes "policy_set_repeated") (codes "4.2.1.4") (codes "taInfo.certPath.policySet")
-anchor_wording PolicySetQualifiers = must_of (codes "RFC 5914") (codes "policy_set_qualifiers") (codes "2.5") (codes "taInfo.certPath.policySet")
-anchor_wording (NameConstraint rule) = record (constraint_wording rule) { place = codes "taInfo.certPath.nameConstr" }
-anchor_wording ExtensionsEmpty = must (codes "extensions_empty") (codes "4.1.2.9") (codes "taInfo.exts")
-anchor_wording ExtensionRepeated = must (codes "extension_repeated") (codes "4.2") (codes "taInfo.exts")
-anchor_wording CertificatePoliciesInExts = must_of (codes "RFC 5914") (codes "certificate_policies_in_exts") (codes "2.6") (codes "taInfo.exts.certificatePolicies")
-anchor_wording PolicyConstraintsInExts = must_of (codes "RFC 5914") (codes "policy_constraints_in_exts") (codes "2.6") (codes "taInfo.exts.policyConstraints")
-anchor_wording InhibitAnyPolicyInExts = must_of (codes "RFC 5914") (codes "inhibit_any_policy_in_exts") (codes "2.6") (codes "taInfo.exts.inhibitAnyPolicy")
-anchor_wording NameConstraintsInExts = must_of (codes "RFC 5914") (codes "name_constraints_in_exts") (codes "2.6") (codes "taInfo.exts.nameConstraints")
-anchor_wording (ExtensionMalformed kind) = must (codes "extension_malformed") (codes "4.2") (anchor_extension_place kind)
+abbrev pub anchor_malformed_sentence : ExtensionKind → Sentence Info AnchorValues
+anchor_malformed_sentence kind =
+    must (codes "extension_malformed") (codes "4.2") (anchor_extension_place kind)
+    (λ t v. not (is_read v.read kind))

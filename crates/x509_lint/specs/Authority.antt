@@ -1,5 +1,5 @@
 -- The rules on what makes a certificate one of a certification authority (RFC 5280 4.2.1.3, 4.2.1.9): what breaks each, their order, and how each is told.
-use Rattle.std.specs.Prelude.{◌&&◌, ◌||◌, ◌==◌, ℕ, length, nat_lt, Bool, not, List, [], ◌∷◌, Option, codes, is_some}
+use Rattle.std.specs.Prelude.{◌&&◌, ◌||◌, ◌==◌, length, nat_lt, Bool, not, List, [], ◌∷◌, Option, codes, is_some}
 use Rattle.x509_ext.specs.KeyUsage.{has_bit}
 use Rattle.x509_ext.specs.declared.extension.Extension.{Extension}
 use Rattle.x509_prim.specs.Integer.{without_zeros}
@@ -10,8 +10,8 @@ use Rattle.x509_lint.specs.Words.{Certificate, extensions_of, has, has_uncritica
 use Rattle.x509_lint.specs.declared.basic_constraints.AnyBasicConstraints.{AnyBasicConstraints}
 use Rattle.x509_lint.specs.declared.values.AuthorityValues.{AuthorityValues}
 use Rattle.x509_lint.specs.declared.rule.authority.AuthorityRule.{AuthorityRule}
-use Rattle.x509_lint.specs.declared.rule.authority.AuthorityRule.TheVariants.{CaSubjectEmpty, CrlIssuerSubjectEmpty, CaWithoutSubjectKeyIdentifier, SubjectKeyIdentifierAbsent, CaWithoutKeyUsage, KeyUsageEmpty, CaWithoutKeyCertSign, KeyCertSignWithoutCa, CaBasicConstraintsNotCritical, PathLenWithoutCa, PathLenNotJudged, NameConstraintsInLeaf}
-use Rattle.x509_lint.specs.Wording.{Wording, must, should, not_judged}
+use Rattle.x509_lint.specs.declared.rule.authority.AuthorityRule.TheVariants as rules
+use Rattle.x509_lint.specs.Sentence.{Sentence, must, should, not_judged}
 
 -- cA is set
 abbrev pub is_ca : Option AnyBasicConstraints → Bool
@@ -32,35 +32,57 @@ has_path_len constraints = passes (λ b. is_some b.path_len_constraint) constrai
 abbrev pub is_long_path : AnyBasicConstraints → Bool
 is_long_path constraints = passes (λ number. nat_lt 1 (length (without_zeros number))) constraints.path_len_constraint
 
-abbrev pub breaks_authority : Certificate → AuthorityValues → AuthorityRule → Bool
-breaks_authority c v CaSubjectEmpty = is_ca v.basic_constraints && is_empty c.tbs_certificate.subject
-breaks_authority c v CrlIssuerSubjectEmpty = passes (λ u. has_bit u 6) v.key_usage && is_empty c.tbs_certificate.subject
-breaks_authority c v CaWithoutSubjectKeyIdentifier = is_ca v.basic_constraints && not (has (id_ce 14) (extensions_of c))
-breaks_authority c v SubjectKeyIdentifierAbsent = is_v3 c.tbs_certificate.version && is_no_ca (extensions_of c) v.basic_constraints && not (has (id_ce 14) (extensions_of c))
-breaks_authority c v CaWithoutKeyUsage = is_ca v.basic_constraints && not (has (id_ce 15) (extensions_of c))
-breaks_authority c v KeyUsageEmpty = passes has_no_bit v.key_usage
-breaks_authority c v CaWithoutKeyCertSign = is_ca v.basic_constraints && passes (λ u. not (has_no_bit u) && not (has_bit u 5)) v.key_usage
-breaks_authority c v KeyCertSignWithoutCa = is_no_ca (extensions_of c) v.basic_constraints && passes (λ u. has_bit u 5) v.key_usage
-breaks_authority c v CaBasicConstraintsNotCritical = is_ca v.basic_constraints && has_uncritical (id_ce 19) (extensions_of c)
-breaks_authority c v PathLenWithoutCa = not (is_ca v.basic_constraints) && has_path_len v.basic_constraints
-breaks_authority c v PathLenNotJudged = passes is_long_path v.basic_constraints
-breaks_authority c v NameConstraintsInLeaf = is_no_ca (extensions_of c) v.basic_constraints && has (id_ce 30) (extensions_of c)
-
--- ---- the order, and how each is told
+-- ---- the rules, in their order
 
 abbrev pub authority_rules : List AuthorityRule
-authority_rules = CaSubjectEmpty ∷ CrlIssuerSubjectEmpty ∷ CaWithoutSubjectKeyIdentifier ∷ SubjectKeyIdentifierAbsent ∷ CaWithoutKeyUsage ∷ KeyUsageEmpty ∷ CaWithoutKeyCertSign ∷ KeyCertSignWithoutCa ∷ CaBasicConstraintsNotCritical ∷ PathLenWithoutCa ∷ PathLenNotJudged ∷ NameConstraintsInLeaf ∷ []
+authority_rules =
+    rules.CaSubjectEmpty
+    ∷ rules.CrlIssuerSubjectEmpty
+    ∷ rules.CaWithoutSubjectKeyIdentifier
+    ∷ rules.SubjectKeyIdentifierAbsent
+    ∷ rules.CaWithoutKeyUsage
+    ∷ rules.KeyUsageEmpty
+    ∷ rules.CaWithoutKeyCertSign
+    ∷ rules.KeyCertSignWithoutCa
+    ∷ rules.CaBasicConstraintsNotCritical
+    ∷ rules.PathLenWithoutCa
+    ∷ rules.PathLenNotJudged
+    ∷ rules.NameConstraintsInLeaf ∷ []
 
-abbrev pub authority_wording : AuthorityRule → Wording
-authority_wording CaSubjectEmpty = must (codes "ca_subject_empty") (codes "4.1.2.6") (codes "tbsCertificate.subject")
-authority_wording CrlIssuerSubjectEmpty = must (codes "crl_issuer_subject_empty") (codes "4.1.2.6") (codes "tbsCertificate.subject")
-authority_wording CaWithoutSubjectKeyIdentifier = must (codes "ca_without_subject_key_identifier") (codes "4.2.1.2") (codes "tbsCertificate.extensions.subjectKeyIdentifier")
-authority_wording SubjectKeyIdentifierAbsent = should (codes "subject_key_identifier_absent") (codes "4.2.1.2") (codes "tbsCertificate.extensions.subjectKeyIdentifier")
-authority_wording CaWithoutKeyUsage = must (codes "ca_without_key_usage") (codes "4.2.1.3") (codes "tbsCertificate.extensions.keyUsage")
-authority_wording KeyUsageEmpty = must (codes "key_usage_empty") (codes "4.2.1.3") (codes "tbsCertificate.extensions.keyUsage")
-authority_wording CaWithoutKeyCertSign = must (codes "ca_without_key_cert_sign") (codes "4.2.1.3") (codes "tbsCertificate.extensions.keyUsage")
-authority_wording KeyCertSignWithoutCa = must (codes "key_cert_sign_without_ca") (codes "4.2.1.9") (codes "tbsCertificate.extensions.keyUsage")
-authority_wording CaBasicConstraintsNotCritical = must (codes "ca_basic_constraints_not_critical") (codes "4.2.1.9") (codes "tbsCertificate.extensions.basicConstraints")
-authority_wording PathLenWithoutCa = must (codes "path_len_without_ca") (codes "4.2.1.9") (codes "tbsCertificate.extensions.basicConstraints")
-authority_wording PathLenNotJudged = not_judged (codes "path_len_above_255") (codes "4.2.1.9") (codes "tbsCertificate.extensions.basicConstraints")
-authority_wording NameConstraintsInLeaf = must (codes "name_constraints_in_leaf") (codes "4.2.1.10") (codes "tbsCertificate.extensions.nameConstraints")
+abbrev pub authority_sentence : AuthorityRule → Sentence Certificate AuthorityValues
+authority_sentence rules.CaSubjectEmpty =
+    must (codes "ca_subject_empty") (codes "4.1.2.6") (codes "tbsCertificate.subject")
+    (λ c v. is_ca v.basic_constraints && is_empty c.tbs_certificate.subject)
+authority_sentence rules.CrlIssuerSubjectEmpty =
+    must (codes "crl_issuer_subject_empty") (codes "4.1.2.6") (codes "tbsCertificate.subject")
+    (λ c v. passes (λ u. has_bit u 6) v.key_usage && is_empty c.tbs_certificate.subject)
+authority_sentence rules.CaWithoutSubjectKeyIdentifier =
+    must (codes "ca_without_subject_key_identifier") (codes "4.2.1.2") (codes "tbsCertificate.extensions.subjectKeyIdentifier")
+    (λ c v. is_ca v.basic_constraints && not (has (id_ce 14) (extensions_of c)))
+authority_sentence rules.SubjectKeyIdentifierAbsent =
+    should (codes "subject_key_identifier_absent") (codes "4.2.1.2") (codes "tbsCertificate.extensions.subjectKeyIdentifier")
+    (λ c v. is_v3 c.tbs_certificate.version && is_no_ca (extensions_of c) v.basic_constraints && not (has (id_ce 14) (extensions_of c)))
+authority_sentence rules.CaWithoutKeyUsage =
+    must (codes "ca_without_key_usage") (codes "4.2.1.3") (codes "tbsCertificate.extensions.keyUsage")
+    (λ c v. is_ca v.basic_constraints && not (has (id_ce 15) (extensions_of c)))
+authority_sentence rules.KeyUsageEmpty =
+    must (codes "key_usage_empty") (codes "4.2.1.3") (codes "tbsCertificate.extensions.keyUsage")
+    (λ c v. passes has_no_bit v.key_usage)
+authority_sentence rules.CaWithoutKeyCertSign =
+    must (codes "ca_without_key_cert_sign") (codes "4.2.1.3") (codes "tbsCertificate.extensions.keyUsage")
+    (λ c v. is_ca v.basic_constraints && passes (λ u. not (has_no_bit u) && not (has_bit u 5)) v.key_usage)
+authority_sentence rules.KeyCertSignWithoutCa =
+    must (codes "key_cert_sign_without_ca") (codes "4.2.1.9") (codes "tbsCertificate.extensions.keyUsage")
+    (λ c v. is_no_ca (extensions_of c) v.basic_constraints && passes (λ u. has_bit u 5) v.key_usage)
+authority_sentence rules.CaBasicConstraintsNotCritical =
+    must (codes "ca_basic_constraints_not_critical") (codes "4.2.1.9") (codes "tbsCertificate.extensions.basicConstraints")
+    (λ c v. is_ca v.basic_constraints && has_uncritical (id_ce 19) (extensions_of c))
+authority_sentence rules.PathLenWithoutCa =
+    must (codes "path_len_without_ca") (codes "4.2.1.9") (codes "tbsCertificate.extensions.basicConstraints")
+    (λ c v. not (is_ca v.basic_constraints) && has_path_len v.basic_constraints)
+authority_sentence rules.PathLenNotJudged =
+    not_judged (codes "path_len_above_255") (codes "4.2.1.9") (codes "tbsCertificate.extensions.basicConstraints")
+    (λ c v. passes is_long_path v.basic_constraints)
+authority_sentence rules.NameConstraintsInLeaf =
+    must (codes "name_constraints_in_leaf") (codes "4.2.1.10") (codes "tbsCertificate.extensions.nameConstraints")
+    (λ c v. is_no_ca (extensions_of c) v.basic_constraints && has (id_ce 30) (extensions_of c))

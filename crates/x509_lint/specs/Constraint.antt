@@ -4,7 +4,7 @@ use Rattle.std.specs.List.{list_all, list_any, slice_split}
 use Rattle.x509_ext.specs.declared.pkix.general_subtree.GeneralSubtree.{GeneralSubtree}
 use Rattle.x509_ext.specs.declared.pkix.name_constraints.NameConstraints.{NameConstraints}
 use Rattle.x509_ext.specs.declared.pkix.name.general_name.GeneralName.{GeneralName}
-use Rattle.x509_ext.specs.declared.pkix.name.general_name.GeneralName.TheVariants.{OtherName, Rfc822Name, DnsName, DirectoryName, EdiPartyName, UniformResourceIdentifier, IpAddress, RegisteredId}
+use Rattle.x509_ext.specs.declared.pkix.name.general_name.GeneralName.TheVariants.{EdiPartyName, UniformResourceIdentifier, IpAddress, RegisteredId}
 use Rattle.x509_lint.specs.Dns.{is_label}
 use Rattle.x509_lint.specs.declared.names.BaseFault.{BaseFault}
 use Rattle.x509_lint.specs.declared.names.BaseFault.TheVariants.{OtherForm, NoHost, NoRange, OddMask}
@@ -12,6 +12,7 @@ use Rattle.x509_lint.specs.Words.{Certificate, is_empty, passes}
 use Rattle.x509_lint.specs.declared.values.ConstraintValues.{ConstraintValues}
 use Rattle.x509_lint.specs.declared.rule.constraint.ConstraintRule.{ConstraintRule}
 use Rattle.x509_lint.specs.declared.rule.constraint.ConstraintRule.TheVariants.{NameConstraintsEmpty, NameConstraintsOtherForm, NameConstraintsSubtreesEmpty, NameConstraintsMinimum, NameConstraintsMaximum, NameConstraintsUriInvalid, NameConstraintsAddressLength, NameConstraintsAddressMask}
+use Rattle.x509_lint.specs.Sentence.{Sentence}
 use Rattle.x509_lint.specs.Wording.{Wording, must, should}
 
 -- a subtree of either list passes the test
@@ -78,9 +79,6 @@ breaks_name_constraints NameConstraintsUriInvalid n = has_subtree (λ s. has_fau
 breaks_name_constraints NameConstraintsAddressLength n = has_subtree (λ s. has_fault NoRange s.base) n
 breaks_name_constraints NameConstraintsAddressMask n = has_subtree (λ s. has_fault OddMask s.base) n
 
-abbrev pub breaks_constraint : Certificate → ConstraintValues → ConstraintRule → Bool
-breaks_constraint c v rule = passes (breaks_name_constraints rule) v.name_constraints
-
 -- ---- the order, and how each is told
 
 abbrev pub constraint_rules : List ConstraintRule
@@ -95,3 +93,6 @@ constraint_wording NameConstraintsMaximum = must (codes "name_constraints_maximu
 constraint_wording NameConstraintsUriInvalid = must (codes "name_constraints_uri_invalid") (codes "4.2.1.10") (codes "tbsCertificate.extensions.nameConstraints")
 constraint_wording NameConstraintsAddressLength = must (codes "name_constraints_address_length") (codes "4.2.1.10") (codes "tbsCertificate.extensions.nameConstraints")
 constraint_wording NameConstraintsAddressMask = must (codes "name_constraints_address_mask") (codes "4.2.1.10") (codes "tbsCertificate.extensions.nameConstraints")
+
+abbrev pub constraint_sentence : ConstraintRule → Sentence Certificate ConstraintValues
+constraint_sentence rule = record { wording = constraint_wording rule; breaks = λ c v. passes (breaks_name_constraints rule) v.name_constraints }

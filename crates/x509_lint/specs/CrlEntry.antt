@@ -14,8 +14,8 @@ use Rattle.x509_lint.specs.declared.entries.EntryFault.{EntryFault}
 use Rattle.x509_lint.specs.declared.entries.EntryFault.TheVariants.{ReasonCritical, ReasonUnspecified, ReasonRemoveFromCrl, ReasonInvalid, InvalidityDateCritical, InvalidityDateInvalid, IssuerNotCritical, Issuer}
 use Rattle.x509_lint.specs.declared.values.CrlValues.{CrlValues}
 use Rattle.x509_lint.specs.declared.rule.crl_entry.CrlEntryRule.{CrlEntryRule}
-use Rattle.x509_lint.specs.declared.rule.crl_entry.CrlEntryRule.TheVariants.{EntryReasonCritical, EntryReasonUnspecified, EntryReasonRemoveFromCrl, EntryReasonInvalid, EntryInvalidityDateCritical, EntryInvalidityDateInvalid, EntryCertificateIssuerNotCritical, EntryCertificateIssuerNotIndirect}
-use Rattle.x509_lint.specs.Wording.{Wording, must, should}
+use Rattle.x509_lint.specs.declared.rule.crl_entry.CrlEntryRule.TheVariants as rules
+use Rattle.x509_lint.specs.Sentence.{Sentence, must, should}
 
 -- the DER of the reason with this number, an ENUMERATED (RFC 5280 5.3.1)
 abbrev pub reason_octets : ℕ → List ℕ
@@ -59,27 +59,41 @@ has_fault l fault = has_entry (λ e. list_any (is_faulty fault) (members e.crl_e
 abbrev pub is_direct : List Extension → Option IssuingDistributionPoint → Bool
 is_direct extensions point = not (has (id_ce 28) extensions) || passes (λ p. not p.indirect_crl) point
 
-abbrev pub breaks_crl_entry : Crl → CrlValues → CrlEntryRule → Bool
-breaks_crl_entry l v EntryReasonCritical = has_fault l ReasonCritical
-breaks_crl_entry l v EntryReasonUnspecified = has_fault l ReasonUnspecified
-breaks_crl_entry l v EntryReasonRemoveFromCrl = has_fault l ReasonRemoveFromCrl && not (has (id_ce 27) (crl_extensions_of l))
-breaks_crl_entry l v EntryReasonInvalid = has_fault l ReasonInvalid
-breaks_crl_entry l v EntryInvalidityDateCritical = has_fault l InvalidityDateCritical
-breaks_crl_entry l v EntryInvalidityDateInvalid = has_fault l InvalidityDateInvalid
-breaks_crl_entry l v EntryCertificateIssuerNotCritical = has_fault l IssuerNotCritical
-breaks_crl_entry l v EntryCertificateIssuerNotIndirect = has_fault l Issuer && is_direct (crl_extensions_of l) v.issuing_distribution_point
-
--- ---- the order, and how each is told
+-- ---- the rules, in their order
 
 abbrev pub crl_entry_rules : List CrlEntryRule
-crl_entry_rules = EntryReasonCritical ∷ EntryReasonUnspecified ∷ EntryReasonRemoveFromCrl ∷ EntryReasonInvalid ∷ EntryInvalidityDateCritical ∷ EntryInvalidityDateInvalid ∷ EntryCertificateIssuerNotCritical ∷ EntryCertificateIssuerNotIndirect ∷ []
+crl_entry_rules =
+    rules.EntryReasonCritical
+    ∷ rules.EntryReasonUnspecified
+    ∷ rules.EntryReasonRemoveFromCrl
+    ∷ rules.EntryReasonInvalid
+    ∷ rules.EntryInvalidityDateCritical
+    ∷ rules.EntryInvalidityDateInvalid
+    ∷ rules.EntryCertificateIssuerNotCritical
+    ∷ rules.EntryCertificateIssuerNotIndirect ∷ []
 
-abbrev pub crl_entry_wording : CrlEntryRule → Wording
-crl_entry_wording EntryReasonCritical = must (codes "entry_reason_critical") (codes "5.3.1") (codes "tbsCertList.revokedCertificates.crlEntryExtensions.reasonCode")
-crl_entry_wording EntryReasonUnspecified = should (codes "entry_reason_unspecified") (codes "5.3.1") (codes "tbsCertList.revokedCertificates.crlEntryExtensions.reasonCode")
-crl_entry_wording EntryReasonRemoveFromCrl = must (codes "entry_reason_remove_from_crl") (codes "5.3.1") (codes "tbsCertList.revokedCertificates.crlEntryExtensions.reasonCode")
-crl_entry_wording EntryReasonInvalid = must (codes "entry_reason_invalid") (codes "5.3.1") (codes "tbsCertList.revokedCertificates.crlEntryExtensions.reasonCode")
-crl_entry_wording EntryInvalidityDateCritical = must (codes "entry_invalidity_date_critical") (codes "5.3.2") (codes "tbsCertList.revokedCertificates.crlEntryExtensions.invalidityDate")
-crl_entry_wording EntryInvalidityDateInvalid = must (codes "entry_invalidity_date_invalid") (codes "5.3.2") (codes "tbsCertList.revokedCertificates.crlEntryExtensions.invalidityDate")
-crl_entry_wording EntryCertificateIssuerNotCritical = must (codes "entry_certificate_issuer_not_critical") (codes "5.3.3") (codes "tbsCertList.revokedCertificates.crlEntryExtensions.certificateIssuer")
-crl_entry_wording EntryCertificateIssuerNotIndirect = must (codes "entry_certificate_issuer_not_indirect") (codes "5.3.3") (codes "tbsCertList.revokedCertificates.crlEntryExtensions.certificateIssuer")
+abbrev pub crl_entry_sentence : CrlEntryRule → Sentence Crl CrlValues
+crl_entry_sentence rules.EntryReasonCritical =
+    must (codes "entry_reason_critical") (codes "5.3.1") (codes "tbsCertList.revokedCertificates.crlEntryExtensions.reasonCode")
+    (λ l v. has_fault l ReasonCritical)
+crl_entry_sentence rules.EntryReasonUnspecified =
+    should (codes "entry_reason_unspecified") (codes "5.3.1") (codes "tbsCertList.revokedCertificates.crlEntryExtensions.reasonCode")
+    (λ l v. has_fault l ReasonUnspecified)
+crl_entry_sentence rules.EntryReasonRemoveFromCrl =
+    must (codes "entry_reason_remove_from_crl") (codes "5.3.1") (codes "tbsCertList.revokedCertificates.crlEntryExtensions.reasonCode")
+    (λ l v. has_fault l ReasonRemoveFromCrl && not (has (id_ce 27) (crl_extensions_of l)))
+crl_entry_sentence rules.EntryReasonInvalid =
+    must (codes "entry_reason_invalid") (codes "5.3.1") (codes "tbsCertList.revokedCertificates.crlEntryExtensions.reasonCode")
+    (λ l v. has_fault l ReasonInvalid)
+crl_entry_sentence rules.EntryInvalidityDateCritical =
+    must (codes "entry_invalidity_date_critical") (codes "5.3.2") (codes "tbsCertList.revokedCertificates.crlEntryExtensions.invalidityDate")
+    (λ l v. has_fault l InvalidityDateCritical)
+crl_entry_sentence rules.EntryInvalidityDateInvalid =
+    must (codes "entry_invalidity_date_invalid") (codes "5.3.2") (codes "tbsCertList.revokedCertificates.crlEntryExtensions.invalidityDate")
+    (λ l v. has_fault l InvalidityDateInvalid)
+crl_entry_sentence rules.EntryCertificateIssuerNotCritical =
+    must (codes "entry_certificate_issuer_not_critical") (codes "5.3.3") (codes "tbsCertList.revokedCertificates.crlEntryExtensions.certificateIssuer")
+    (λ l v. has_fault l IssuerNotCritical)
+crl_entry_sentence rules.EntryCertificateIssuerNotIndirect =
+    must (codes "entry_certificate_issuer_not_indirect") (codes "5.3.3") (codes "tbsCertList.revokedCertificates.crlEntryExtensions.certificateIssuer")
+    (λ l v. has_fault l Issuer && is_direct (crl_extensions_of l) v.issuing_distribution_point)

@@ -10,8 +10,8 @@ use Rattle.x509_lint.specs.declared.places.PointFault.TheVariants.{ReasonsOrIssu
 use Rattle.x509_lint.specs.Words.{Crl, crl_extensions_of, has, has_critical, has_uncritical, passes}
 use Rattle.x509_lint.specs.declared.values.CrlValues.{CrlValues}
 use Rattle.x509_lint.specs.declared.rule.crl_extension.CrlExtensionRule.{CrlExtensionRule}
-use Rattle.x509_lint.specs.declared.rule.crl_extension.CrlExtensionRule.TheVariants.{AuthorityKeyIdentifierAbsent, AuthorityKeyIdentifierWithoutKey, AuthorityKeyIdentifierCritical, IssuerAltNameCritical, CrlNumberAbsent, CrlNumberCritical, CrlNumberTooLong, DeltaCrlIndicatorNotCritical, IssuingDistributionPointNotCritical, IssuingDistributionPointEmpty, IssuingDistributionPointKinds, IssuingDistributionPointAttributeCerts, FreshestCrlCritical, FreshestCrlInDelta, FreshestCrlReasonsOrIssuer, AuthorityInfoAccessCritical, AuthorityInfoAccessOtherMethod, CaIssuersWithoutUri}
-use Rattle.x509_lint.specs.Wording.{Wording, must, should}
+use Rattle.x509_lint.specs.declared.rule.crl_extension.CrlExtensionRule.TheVariants as rules
+use Rattle.x509_lint.specs.Sentence.{Sentence, must, should}
 
 -- each field is absent or has its default
 abbrev pub is_empty_issuing_point : IssuingDistributionPoint → Bool
@@ -29,47 +29,81 @@ has_several_kinds p =
     (p.only_contains_user_certs && p.only_contains_ca_certs) || (p.only_contains_user_certs && p.only_contains_attribute_certs)
     || (p.only_contains_ca_certs && p.only_contains_attribute_certs)
 
-abbrev pub breaks_crl_extension : Crl → CrlValues → CrlExtensionRule → Bool
-breaks_crl_extension l v AuthorityKeyIdentifierAbsent = not (has (id_ce 35) (crl_extensions_of l))
-breaks_crl_extension l v AuthorityKeyIdentifierWithoutKey = passes (λ a. not (is_some a.key_identifier)) v.authority_key_identifier
-breaks_crl_extension l v AuthorityKeyIdentifierCritical = has_critical (id_ce 35) (crl_extensions_of l)
-breaks_crl_extension l v IssuerAltNameCritical = has_critical (id_ce 18) (crl_extensions_of l)
-breaks_crl_extension l v CrlNumberAbsent = not (has (id_ce 20) (crl_extensions_of l))
-breaks_crl_extension l v CrlNumberCritical = has_critical (id_ce 20) (crl_extensions_of l)
-breaks_crl_extension l v CrlNumberTooLong = passes is_long_number v.crl_number
-breaks_crl_extension l v DeltaCrlIndicatorNotCritical = has_uncritical (id_ce 27) (crl_extensions_of l)
-breaks_crl_extension l v IssuingDistributionPointNotCritical = has_uncritical (id_ce 28) (crl_extensions_of l)
-breaks_crl_extension l v IssuingDistributionPointEmpty = passes is_empty_issuing_point v.issuing_distribution_point
-breaks_crl_extension l v IssuingDistributionPointKinds = passes has_several_kinds v.issuing_distribution_point
-breaks_crl_extension l v IssuingDistributionPointAttributeCerts = passes (λ p. p.only_contains_attribute_certs) v.issuing_distribution_point
-breaks_crl_extension l v FreshestCrlCritical = has_critical (id_ce 46) (crl_extensions_of l)
-breaks_crl_extension l v FreshestCrlInDelta = has (id_ce 46) (crl_extensions_of l) && has (id_ce 27) (crl_extensions_of l)
-breaks_crl_extension l v FreshestCrlReasonsOrIssuer = passes (λ p. list_any (is_faulty_point ReasonsOrIssuer) p.0) v.freshest_crl
-breaks_crl_extension l v AuthorityInfoAccessCritical = has_critical (id_pkix 1 1) (crl_extensions_of l)
-breaks_crl_extension l v AuthorityInfoAccessOtherMethod = passes (λ a. has_other_method ca_issuers a.0) v.authority_info_access
-breaks_crl_extension l v CaIssuersWithoutUri = passes (λ a. lacks_uri ca_issuers a.0) v.authority_info_access
-
--- ---- the order, and how each is told
+-- ---- the rules, in their order
 
 abbrev pub crl_extension_rules : List CrlExtensionRule
-crl_extension_rules = AuthorityKeyIdentifierAbsent ∷ AuthorityKeyIdentifierWithoutKey ∷ AuthorityKeyIdentifierCritical ∷ IssuerAltNameCritical ∷ CrlNumberAbsent ∷ CrlNumberCritical ∷ CrlNumberTooLong ∷ DeltaCrlIndicatorNotCritical ∷ IssuingDistributionPointNotCritical ∷ IssuingDistributionPointEmpty ∷ IssuingDistributionPointKinds ∷ IssuingDistributionPointAttributeCerts ∷ FreshestCrlCritical ∷ FreshestCrlInDelta ∷ FreshestCrlReasonsOrIssuer ∷ AuthorityInfoAccessCritical ∷ AuthorityInfoAccessOtherMethod ∷ CaIssuersWithoutUri ∷ []
+crl_extension_rules =
+    rules.AuthorityKeyIdentifierAbsent
+    ∷ rules.AuthorityKeyIdentifierWithoutKey
+    ∷ rules.AuthorityKeyIdentifierCritical
+    ∷ rules.IssuerAltNameCritical
+    ∷ rules.CrlNumberAbsent
+    ∷ rules.CrlNumberCritical
+    ∷ rules.CrlNumberTooLong
+    ∷ rules.DeltaCrlIndicatorNotCritical
+    ∷ rules.IssuingDistributionPointNotCritical
+    ∷ rules.IssuingDistributionPointEmpty
+    ∷ rules.IssuingDistributionPointKinds
+    ∷ rules.IssuingDistributionPointAttributeCerts
+    ∷ rules.FreshestCrlCritical
+    ∷ rules.FreshestCrlInDelta
+    ∷ rules.FreshestCrlReasonsOrIssuer
+    ∷ rules.AuthorityInfoAccessCritical
+    ∷ rules.AuthorityInfoAccessOtherMethod
+    ∷ rules.CaIssuersWithoutUri ∷ []
 
-abbrev pub crl_extension_wording : CrlExtensionRule → Wording
-crl_extension_wording AuthorityKeyIdentifierAbsent = must (codes "authority_key_identifier_absent") (codes "5.2.1") (codes "tbsCertList.crlExtensions.authorityKeyIdentifier")
-crl_extension_wording AuthorityKeyIdentifierWithoutKey = must (codes "authority_key_identifier_without_key") (codes "5.2.1") (codes "tbsCertList.crlExtensions.authorityKeyIdentifier")
-crl_extension_wording AuthorityKeyIdentifierCritical = must (codes "authority_key_identifier_critical") (codes "4.2.1.1") (codes "tbsCertList.crlExtensions.authorityKeyIdentifier")
-crl_extension_wording IssuerAltNameCritical = should (codes "issuer_alt_name_critical") (codes "5.2.2") (codes "tbsCertList.crlExtensions.issuerAltName")
-crl_extension_wording CrlNumberAbsent = must (codes "crl_number_absent") (codes "5.2.3") (codes "tbsCertList.crlExtensions.cRLNumber")
-crl_extension_wording CrlNumberCritical = must (codes "crl_number_critical") (codes "5.2.3") (codes "tbsCertList.crlExtensions.cRLNumber")
-crl_extension_wording CrlNumberTooLong = must (codes "crl_number_too_long") (codes "5.2.3") (codes "tbsCertList.crlExtensions.cRLNumber")
-crl_extension_wording DeltaCrlIndicatorNotCritical = must (codes "delta_crl_indicator_not_critical") (codes "5.2.4") (codes "tbsCertList.crlExtensions.deltaCRLIndicator")
-crl_extension_wording IssuingDistributionPointNotCritical = must (codes "issuing_distribution_point_not_critical") (codes "5.2.5") (codes "tbsCertList.crlExtensions.issuingDistributionPoint")
-crl_extension_wording IssuingDistributionPointEmpty = must (codes "issuing_distribution_point_empty") (codes "5.2.5") (codes "tbsCertList.crlExtensions.issuingDistributionPoint")
-crl_extension_wording IssuingDistributionPointKinds = must (codes "issuing_distribution_point_kinds") (codes "5.2.5") (codes "tbsCertList.crlExtensions.issuingDistributionPoint")
-crl_extension_wording IssuingDistributionPointAttributeCerts = must (codes "issuing_distribution_point_attribute_certs") (codes "5.2.5") (codes "tbsCertList.crlExtensions.issuingDistributionPoint")
-crl_extension_wording FreshestCrlCritical = must (codes "freshest_crl_critical") (codes "5.2.6") (codes "tbsCertList.crlExtensions.freshestCRL")
-crl_extension_wording FreshestCrlInDelta = must (codes "freshest_crl_in_delta") (codes "5.2.6") (codes "tbsCertList.crlExtensions.freshestCRL")
-crl_extension_wording FreshestCrlReasonsOrIssuer = must (codes "freshest_crl_reasons_or_issuer") (codes "5.2.6") (codes "tbsCertList.crlExtensions.freshestCRL")
-crl_extension_wording AuthorityInfoAccessCritical = must (codes "authority_info_access_critical") (codes "5.2.7") (codes "tbsCertList.crlExtensions.authorityInfoAccess")
-crl_extension_wording AuthorityInfoAccessOtherMethod = must (codes "authority_info_access_other_method") (codes "5.2.7") (codes "tbsCertList.crlExtensions.authorityInfoAccess")
-crl_extension_wording CaIssuersWithoutUri = should (codes "ca_issuers_without_uri") (codes "5.2.7") (codes "tbsCertList.crlExtensions.authorityInfoAccess")
+abbrev pub crl_extension_sentence : CrlExtensionRule → Sentence Crl CrlValues
+crl_extension_sentence rules.AuthorityKeyIdentifierAbsent =
+    must (codes "authority_key_identifier_absent") (codes "5.2.1") (codes "tbsCertList.crlExtensions.authorityKeyIdentifier")
+    (λ l v. not (has (id_ce 35) (crl_extensions_of l)))
+crl_extension_sentence rules.AuthorityKeyIdentifierWithoutKey =
+    must (codes "authority_key_identifier_without_key") (codes "5.2.1") (codes "tbsCertList.crlExtensions.authorityKeyIdentifier")
+    (λ l v. passes (λ a. not (is_some a.key_identifier)) v.authority_key_identifier)
+crl_extension_sentence rules.AuthorityKeyIdentifierCritical =
+    must (codes "authority_key_identifier_critical") (codes "4.2.1.1") (codes "tbsCertList.crlExtensions.authorityKeyIdentifier")
+    (λ l v. has_critical (id_ce 35) (crl_extensions_of l))
+crl_extension_sentence rules.IssuerAltNameCritical =
+    should (codes "issuer_alt_name_critical") (codes "5.2.2") (codes "tbsCertList.crlExtensions.issuerAltName")
+    (λ l v. has_critical (id_ce 18) (crl_extensions_of l))
+crl_extension_sentence rules.CrlNumberAbsent =
+    must (codes "crl_number_absent") (codes "5.2.3") (codes "tbsCertList.crlExtensions.cRLNumber")
+    (λ l v. not (has (id_ce 20) (crl_extensions_of l)))
+crl_extension_sentence rules.CrlNumberCritical =
+    must (codes "crl_number_critical") (codes "5.2.3") (codes "tbsCertList.crlExtensions.cRLNumber")
+    (λ l v. has_critical (id_ce 20) (crl_extensions_of l))
+crl_extension_sentence rules.CrlNumberTooLong =
+    must (codes "crl_number_too_long") (codes "5.2.3") (codes "tbsCertList.crlExtensions.cRLNumber")
+    (λ l v. passes is_long_number v.crl_number)
+crl_extension_sentence rules.DeltaCrlIndicatorNotCritical =
+    must (codes "delta_crl_indicator_not_critical") (codes "5.2.4") (codes "tbsCertList.crlExtensions.deltaCRLIndicator")
+    (λ l v. has_uncritical (id_ce 27) (crl_extensions_of l))
+crl_extension_sentence rules.IssuingDistributionPointNotCritical =
+    must (codes "issuing_distribution_point_not_critical") (codes "5.2.5") (codes "tbsCertList.crlExtensions.issuingDistributionPoint")
+    (λ l v. has_uncritical (id_ce 28) (crl_extensions_of l))
+crl_extension_sentence rules.IssuingDistributionPointEmpty =
+    must (codes "issuing_distribution_point_empty") (codes "5.2.5") (codes "tbsCertList.crlExtensions.issuingDistributionPoint")
+    (λ l v. passes is_empty_issuing_point v.issuing_distribution_point)
+crl_extension_sentence rules.IssuingDistributionPointKinds =
+    must (codes "issuing_distribution_point_kinds") (codes "5.2.5") (codes "tbsCertList.crlExtensions.issuingDistributionPoint")
+    (λ l v. passes has_several_kinds v.issuing_distribution_point)
+crl_extension_sentence rules.IssuingDistributionPointAttributeCerts =
+    must (codes "issuing_distribution_point_attribute_certs") (codes "5.2.5") (codes "tbsCertList.crlExtensions.issuingDistributionPoint")
+    (λ l v. passes (λ p. p.only_contains_attribute_certs) v.issuing_distribution_point)
+crl_extension_sentence rules.FreshestCrlCritical =
+    must (codes "freshest_crl_critical") (codes "5.2.6") (codes "tbsCertList.crlExtensions.freshestCRL")
+    (λ l v. has_critical (id_ce 46) (crl_extensions_of l))
+crl_extension_sentence rules.FreshestCrlInDelta =
+    must (codes "freshest_crl_in_delta") (codes "5.2.6") (codes "tbsCertList.crlExtensions.freshestCRL")
+    (λ l v. has (id_ce 46) (crl_extensions_of l) && has (id_ce 27) (crl_extensions_of l))
+crl_extension_sentence rules.FreshestCrlReasonsOrIssuer =
+    must (codes "freshest_crl_reasons_or_issuer") (codes "5.2.6") (codes "tbsCertList.crlExtensions.freshestCRL")
+    (λ l v. passes (λ p. list_any (is_faulty_point ReasonsOrIssuer) p.0) v.freshest_crl)
+crl_extension_sentence rules.AuthorityInfoAccessCritical =
+    must (codes "authority_info_access_critical") (codes "5.2.7") (codes "tbsCertList.crlExtensions.authorityInfoAccess")
+    (λ l v. has_critical (id_pkix 1 1) (crl_extensions_of l))
+crl_extension_sentence rules.AuthorityInfoAccessOtherMethod =
+    must (codes "authority_info_access_other_method") (codes "5.2.7") (codes "tbsCertList.crlExtensions.authorityInfoAccess")
+    (λ l v. passes (λ a. has_other_method ca_issuers a.0) v.authority_info_access)
+crl_extension_sentence rules.CaIssuersWithoutUri =
+    should (codes "ca_issuers_without_uri") (codes "5.2.7") (codes "tbsCertList.crlExtensions.authorityInfoAccess")
+    (λ l v. passes (λ a. lacks_uri ca_issuers a.0) v.authority_info_access)

@@ -1,5 +1,5 @@
 -- The rules on the fields of a CRL (RFC 5280 5.1): what breaks each, their order, and how each is told.
-use Rattle.std.specs.Prelude.{◌&&◌, ◌||◌, ◌++◌, ℕ, Bool, true, false, not, List, [], ◌∷◌, codes, is_some, map}
+use Rattle.std.specs.Prelude.{◌&&◌, ◌||◌, ℕ, Bool, true, false, not, List, [], ◌∷◌, codes, is_some}
 use Rattle.std.specs.List.{list_any}
 use Rattle.x509_cert.specs.Revoked.{entries}
 use Rattle.x509_base.specs.declared.profile.Raw.{Raw}
@@ -17,8 +17,10 @@ use Rattle.x509_lint.specs.declared.facts.CrlFacts.{CrlFacts}
 use Rattle.x509_lint.specs.declared.rule.crl_field.CrlExtensionKind.{CrlExtensionKind}
 use Rattle.x509_lint.specs.declared.rule.crl_field.CrlExtensionKind.TheVariants as kinds
 use Rattle.x509_lint.specs.declared.rule.crl_field.CrlFieldRule.{CrlFieldRule}
-use Rattle.x509_lint.specs.declared.rule.crl_field.CrlFieldRule.TheVariants.{SignatureAlgorithmsDiffer, ExtensionsWithoutV2, VersionNotV2, IssuerEmpty, IssuerRdnEmpty, IssuerCountryNameInvalid, IssuerTextType, IssuerTextOldType, IssuerTextCharacters, IssuerTextSize, ThisUpdateNotUtcTime, NextUpdateAbsent, NextUpdateNotUtcTime, NextUpdateBeforeThisUpdate, RevokedCertificatesEmpty, SerialNumberRepeated, RevocationDateNotUtcTime, ExtensionsEmpty, ExtensionRepeated, ExtensionMalformed, EntryExtensionsEmpty, EntryExtensionRepeated}
-use Rattle.x509_lint.specs.Wording.{Wording, must, should}
+use Rattle.x509_lint.specs.declared.rule.crl_field.CrlFieldRule.TheVariants as rules
+use Rattle.x509_lint.specs.declared.rule.crl_field.CrlEntryListRule.{CrlEntryListRule}
+use Rattle.x509_lint.specs.declared.rule.crl_field.CrlEntryListRule.TheVariants as lists
+use Rattle.x509_lint.specs.Sentence.{Sentence, must, should}
 
 abbrev pub is_v2 : Version → Bool
 is_v2 V1 = false
@@ -32,31 +34,90 @@ has_entry test l = list_any test (entries l.tbs_cert_list.revoked_certificates)
 abbrev pub has_extensions : Crl → Bool
 has_extensions l = is_some l.tbs_cert_list.crl_extensions || has_entry (λ e. is_some e.crl_entry_extensions) l
 
-abbrev pub breaks_crl_field : Crl → CrlFacts → CrlFieldRule → Bool
-breaks_crl_field l facts SignatureAlgorithmsDiffer = facts.algorithms_differ
-breaks_crl_field l facts ExtensionsWithoutV2 = has_extensions l && not (passes is_v2 l.tbs_cert_list.version)
-breaks_crl_field l facts VersionNotV2 = passes (λ version. not (is_v2 version)) l.tbs_cert_list.version
-breaks_crl_field l facts IssuerEmpty = is_empty l.tbs_cert_list.issuer
-breaks_crl_field l facts IssuerRdnEmpty = has_empty_rdn l.tbs_cert_list.issuer
-breaks_crl_field l facts IssuerCountryNameInvalid = has_no_country l.tbs_cert_list.issuer
-breaks_crl_field l facts IssuerTextType = has_faulty_text OtherType l.tbs_cert_list.issuer
-breaks_crl_field l facts IssuerTextOldType = has_faulty_text OldType l.tbs_cert_list.issuer
-breaks_crl_field l facts IssuerTextCharacters = has_faulty_text OtherCharacter l.tbs_cert_list.issuer
-breaks_crl_field l facts IssuerTextSize = has_faulty_text Size l.tbs_cert_list.issuer
-breaks_crl_field l facts ThisUpdateNotUtcTime = is_early_general l.tbs_cert_list.this_update
-breaks_crl_field l facts NextUpdateAbsent = not (is_some l.tbs_cert_list.next_update)
-breaks_crl_field l facts NextUpdateNotUtcTime = passes is_early_general l.tbs_cert_list.next_update
-breaks_crl_field l facts NextUpdateBeforeThisUpdate = passes (λ next. is_before next l.tbs_cert_list.this_update) l.tbs_cert_list.next_update
-breaks_crl_field l facts RevokedCertificatesEmpty = passes is_empty l.tbs_cert_list.revoked_certificates
-breaks_crl_field l facts SerialNumberRepeated = not facts.are_serials_distinct && not (has_entry (λ e. has (id_ce 29) (members e.crl_entry_extensions)) l)
-breaks_crl_field l facts RevocationDateNotUtcTime = has_entry (λ e. is_early_general e.revocation_date) l
-breaks_crl_field l facts ExtensionsEmpty = passes is_empty l.tbs_cert_list.crl_extensions
-breaks_crl_field l facts ExtensionRepeated = facts.is_repeated
-breaks_crl_field l facts (ExtensionMalformed kind) = not (is_crl_read facts.read kind)
-breaks_crl_field l facts EntryExtensionsEmpty = has_entry (λ e. passes is_empty e.crl_entry_extensions) l
-breaks_crl_field l facts EntryExtensionRepeated = not facts.are_entries_distinct
+-- ---- the rules, in their order
 
--- ---- the order, and how each is told
+abbrev pub crl_field_rules : List CrlFieldRule
+crl_field_rules =
+    rules.SignatureAlgorithmsDiffer
+    ∷ rules.ExtensionsWithoutV2
+    ∷ rules.VersionNotV2
+    ∷ rules.IssuerEmpty
+    ∷ rules.IssuerRdnEmpty
+    ∷ rules.IssuerCountryNameInvalid
+    ∷ rules.IssuerTextType
+    ∷ rules.IssuerTextOldType
+    ∷ rules.IssuerTextCharacters
+    ∷ rules.IssuerTextSize
+    ∷ rules.ThisUpdateNotUtcTime
+    ∷ rules.NextUpdateAbsent
+    ∷ rules.NextUpdateNotUtcTime
+    ∷ rules.NextUpdateBeforeThisUpdate
+    ∷ rules.RevokedCertificatesEmpty
+    ∷ rules.SerialNumberRepeated
+    ∷ rules.RevocationDateNotUtcTime
+    ∷ rules.ExtensionsEmpty
+    ∷ rules.ExtensionRepeated ∷ []
+
+abbrev pub crl_field_sentence : CrlFieldRule → Sentence Crl CrlFacts
+crl_field_sentence rules.SignatureAlgorithmsDiffer =
+    must (codes "signature_algorithms_differ") (codes "5.1.1.2") (codes "signatureAlgorithm")
+    (λ l facts. facts.algorithms_differ)
+crl_field_sentence rules.ExtensionsWithoutV2 =
+    must (codes "extensions_without_v2") (codes "5.1.2.1") (codes "tbsCertList.version")
+    (λ l facts. has_extensions l && not (passes is_v2 l.tbs_cert_list.version))
+crl_field_sentence rules.VersionNotV2 =
+    must (codes "version_not_v2") (codes "5.1.2.1") (codes "tbsCertList.version")
+    (λ l facts. passes (λ version. not (is_v2 version)) l.tbs_cert_list.version)
+crl_field_sentence rules.IssuerEmpty =
+    must (codes "issuer_empty") (codes "5.1.2.3") (codes "tbsCertList.issuer")
+    (λ l facts. is_empty l.tbs_cert_list.issuer)
+crl_field_sentence rules.IssuerRdnEmpty =
+    must (codes "issuer_rdn_empty") (codes "5.1.2.3") (codes "tbsCertList.issuer")
+    (λ l facts. has_empty_rdn l.tbs_cert_list.issuer)
+crl_field_sentence rules.IssuerCountryNameInvalid =
+    must (codes "issuer_country_name_invalid") (codes "A.1") (codes "tbsCertList.issuer")
+    (λ l facts. has_no_country l.tbs_cert_list.issuer)
+crl_field_sentence rules.IssuerTextType =
+    must (codes "issuer_text_type") (codes "A.1") (codes "tbsCertList.issuer")
+    (λ l facts. has_faulty_text OtherType l.tbs_cert_list.issuer)
+crl_field_sentence rules.IssuerTextOldType =
+    should (codes "issuer_text_old_type") (codes "5.1.2.3") (codes "tbsCertList.issuer")
+    (λ l facts. has_faulty_text OldType l.tbs_cert_list.issuer)
+crl_field_sentence rules.IssuerTextCharacters =
+    must (codes "issuer_text_characters") (codes "5.1.2.3") (codes "tbsCertList.issuer")
+    (λ l facts. has_faulty_text OtherCharacter l.tbs_cert_list.issuer)
+crl_field_sentence rules.IssuerTextSize =
+    must (codes "issuer_text_size") (codes "A.1") (codes "tbsCertList.issuer")
+    (λ l facts. has_faulty_text Size l.tbs_cert_list.issuer)
+crl_field_sentence rules.ThisUpdateNotUtcTime =
+    must (codes "this_update_not_utc_time") (codes "5.1.2.4") (codes "tbsCertList.thisUpdate")
+    (λ l facts. is_early_general l.tbs_cert_list.this_update)
+crl_field_sentence rules.NextUpdateAbsent =
+    must (codes "next_update_absent") (codes "5.1.2.5") (codes "tbsCertList.nextUpdate")
+    (λ l facts. not (is_some l.tbs_cert_list.next_update))
+crl_field_sentence rules.NextUpdateNotUtcTime =
+    must (codes "next_update_not_utc_time") (codes "5.1.2.5") (codes "tbsCertList.nextUpdate")
+    (λ l facts. passes is_early_general l.tbs_cert_list.next_update)
+crl_field_sentence rules.NextUpdateBeforeThisUpdate =
+    must (codes "next_update_before_this_update") (codes "5.1.2.5") (codes "tbsCertList.nextUpdate")
+    (λ l facts. passes (λ next. is_before next l.tbs_cert_list.this_update) l.tbs_cert_list.next_update)
+crl_field_sentence rules.RevokedCertificatesEmpty =
+    must (codes "revoked_certificates_empty") (codes "5.1.2.6") (codes "tbsCertList.revokedCertificates")
+    (λ l facts. passes is_empty l.tbs_cert_list.revoked_certificates)
+crl_field_sentence rules.SerialNumberRepeated =
+    must (codes "serial_number_repeated") (codes "5.1.2.6") (codes "tbsCertList.revokedCertificates.userCertificate")
+    (λ l facts. not facts.are_serials_distinct && not (has_entry (λ e. has (id_ce 29) (members e.crl_entry_extensions)) l))
+crl_field_sentence rules.RevocationDateNotUtcTime =
+    must (codes "revocation_date_not_utc_time") (codes "5.1.2.6") (codes "tbsCertList.revokedCertificates.revocationDate")
+    (λ l facts. has_entry (λ e. is_early_general e.revocation_date) l)
+crl_field_sentence rules.ExtensionsEmpty =
+    must (codes "extensions_empty") (codes "5.1.2.7") (codes "tbsCertList.crlExtensions")
+    (λ l facts. passes is_empty l.tbs_cert_list.crl_extensions)
+crl_field_sentence rules.ExtensionRepeated =
+    must (codes "extension_repeated") (codes "5.2") (codes "tbsCertList.crlExtensions")
+    (λ l facts. facts.is_repeated)
+
+-- ---- of each type of extension, that one of it is malformed
 
 abbrev pub crl_extension_kinds : List CrlExtensionKind
 crl_extension_kinds = kinds.AuthorityKeyIdentifier ∷ kinds.IssuerAltName ∷ kinds.CrlNumber ∷ kinds.DeltaCrlIndicator ∷ kinds.IssuingDistributionPoint ∷ kinds.FreshestCrl ∷ kinds.AuthorityInfoAccess ∷ []
@@ -71,29 +132,22 @@ crl_extension_place kinds.IssuingDistributionPoint = codes "tbsCertList.crlExten
 crl_extension_place kinds.FreshestCrl = codes "tbsCertList.crlExtensions.freshestCRL"
 crl_extension_place kinds.AuthorityInfoAccess = codes "tbsCertList.crlExtensions.authorityInfoAccess"
 
-abbrev pub crl_field_rules : List CrlFieldRule
-crl_field_rules = SignatureAlgorithmsDiffer ∷ ExtensionsWithoutV2 ∷ VersionNotV2 ∷ IssuerEmpty ∷ IssuerRdnEmpty ∷ IssuerCountryNameInvalid ∷ IssuerTextType ∷ IssuerTextOldType ∷ IssuerTextCharacters ∷ IssuerTextSize ∷ ThisUpdateNotUtcTime ∷ NextUpdateAbsent ∷ NextUpdateNotUtcTime ∷ NextUpdateBeforeThisUpdate ∷ RevokedCertificatesEmpty ∷ SerialNumberRepeated ∷ RevocationDateNotUtcTime ∷ ExtensionsEmpty ∷ ExtensionRepeated ∷ (map ExtensionMalformed crl_extension_kinds ++ EntryExtensionsEmpty ∷ EntryExtensionRepeated ∷ [])
+abbrev pub crl_malformed_sentence : CrlExtensionKind → Sentence Crl CrlFacts
+crl_malformed_sentence kind =
+    must (codes "extension_malformed") (codes "5.2") (crl_extension_place kind)
+    (λ l facts. not (is_crl_read facts.read kind))
 
-abbrev pub crl_field_wording : CrlFieldRule → Wording
-crl_field_wording SignatureAlgorithmsDiffer = must (codes "signature_algorithms_differ") (codes "5.1.1.2") (codes "signatureAlgorithm")
-crl_field_wording ExtensionsWithoutV2 = must (codes "extensions_without_v2") (codes "5.1.2.1") (codes "tbsCertList.version")
-crl_field_wording VersionNotV2 = must (codes "version_not_v2") (codes "5.1.2.1") (codes "tbsCertList.version")
-crl_field_wording IssuerEmpty = must (codes "issuer_empty") (codes "5.1.2.3") (codes "tbsCertList.issuer")
-crl_field_wording IssuerRdnEmpty = must (codes "issuer_rdn_empty") (codes "5.1.2.3") (codes "tbsCertList.issuer")
-crl_field_wording IssuerCountryNameInvalid = must (codes "issuer_country_name_invalid") (codes "A.1") (codes "tbsCertList.issuer")
-crl_field_wording IssuerTextType = must (codes "issuer_text_type") (codes "A.1") (codes "tbsCertList.issuer")
-crl_field_wording IssuerTextOldType = should (codes "issuer_text_old_type") (codes "5.1.2.3") (codes "tbsCertList.issuer")
-crl_field_wording IssuerTextCharacters = must (codes "issuer_text_characters") (codes "5.1.2.3") (codes "tbsCertList.issuer")
-crl_field_wording IssuerTextSize = must (codes "issuer_text_size") (codes "A.1") (codes "tbsCertList.issuer")
-crl_field_wording ThisUpdateNotUtcTime = must (codes "this_update_not_utc_time") (codes "5.1.2.4") (codes "tbsCertList.thisUpdate")
-crl_field_wording NextUpdateAbsent = must (codes "next_update_absent") (codes "5.1.2.5") (codes "tbsCertList.nextUpdate")
-crl_field_wording NextUpdateNotUtcTime = must (codes "next_update_not_utc_time") (codes "5.1.2.5") (codes "tbsCertList.nextUpdate")
-crl_field_wording NextUpdateBeforeThisUpdate = must (codes "next_update_before_this_update") (codes "5.1.2.5") (codes "tbsCertList.nextUpdate")
-crl_field_wording RevokedCertificatesEmpty = must (codes "revoked_certificates_empty") (codes "5.1.2.6") (codes "tbsCertList.revokedCertificates")
-crl_field_wording SerialNumberRepeated = must (codes "serial_number_repeated") (codes "5.1.2.6") (codes "tbsCertList.revokedCertificates.userCertificate")
-crl_field_wording RevocationDateNotUtcTime = must (codes "revocation_date_not_utc_time") (codes "5.1.2.6") (codes "tbsCertList.revokedCertificates.revocationDate")
-crl_field_wording ExtensionsEmpty = must (codes "extensions_empty") (codes "5.1.2.7") (codes "tbsCertList.crlExtensions")
-crl_field_wording ExtensionRepeated = must (codes "extension_repeated") (codes "5.2") (codes "tbsCertList.crlExtensions")
-crl_field_wording (ExtensionMalformed kind) = must (codes "extension_malformed") (codes "5.2") (crl_extension_place kind)
-crl_field_wording EntryExtensionsEmpty = must (codes "entry_extensions_empty") (codes "5.3") (codes "tbsCertList.revokedCertificates.crlEntryExtensions")
-crl_field_wording EntryExtensionRepeated = must (codes "entry_extension_repeated") (codes "5.3") (codes "tbsCertList.revokedCertificates.crlEntryExtensions")
+-- ---- the rules on the lists of the entries' extensions, in their order
+
+abbrev pub crl_entry_list_rules : List CrlEntryListRule
+crl_entry_list_rules =
+    lists.EntryExtensionsEmpty
+    ∷ lists.EntryExtensionRepeated ∷ []
+
+abbrev pub crl_entry_list_sentence : CrlEntryListRule → Sentence Crl CrlFacts
+crl_entry_list_sentence lists.EntryExtensionsEmpty =
+    must (codes "entry_extensions_empty") (codes "5.3") (codes "tbsCertList.revokedCertificates.crlEntryExtensions")
+    (λ l facts. has_entry (λ e. passes is_empty e.crl_entry_extensions) l)
+crl_entry_list_sentence lists.EntryExtensionRepeated =
+    must (codes "entry_extension_repeated") (codes "5.3") (codes "tbsCertList.revokedCertificates.crlEntryExtensions")
+    (λ l facts. not facts.are_entries_distinct)

@@ -8,8 +8,8 @@ use Rattle.x509_lint.specs.Field.{is_v3}
 use Rattle.x509_lint.specs.Words.{Certificate, extensions_of, has, has_critical, is_empty, passes}
 use Rattle.x509_lint.specs.declared.values.KeyValues.{KeyValues}
 use Rattle.x509_lint.specs.declared.rule.key.KeyRule.{KeyRule}
-use Rattle.x509_lint.specs.declared.rule.key.KeyRule.TheVariants.{AuthorityKeyIdentifierAbsent, AuthorityKeyIdentifierWithoutKey, AuthorityCertIssuerEmpty, AuthorityCertIssuerAndSerialApart, ExtendedKeyUsageEmpty, AnyExtendedKeyUsageCritical, PrivateKeyUsagePeriodEmpty}
-use Rattle.x509_lint.specs.Wording.{Wording, must, should}
+use Rattle.x509_lint.specs.declared.rule.key.KeyRule.TheVariants as rules
+use Rattle.x509_lint.specs.Sentence.{Sentence, must, should}
 
 -- the content octets of 2.5.29.37.0, anyExtendedKeyUsage (RFC 5280 4.2.1.12)
 abbrev pub any_extended_key_usage : List ℕ
@@ -25,25 +25,37 @@ has_half_issuer a =
     (is_some a.authority_cert_issuer && not (is_some a.authority_cert_serial_number))
     || (is_some a.authority_cert_serial_number && not (is_some a.authority_cert_issuer))
 
-abbrev pub breaks_key : Certificate → KeyValues → KeyRule → Bool
-breaks_key c v AuthorityKeyIdentifierAbsent = is_v3 c.tbs_certificate.version && not (has (id_ce 35) (extensions_of c)) && not (is_self_issued c)
-breaks_key c v AuthorityKeyIdentifierWithoutKey = passes (λ a. not (is_some a.key_identifier)) v.authority_key_identifier
-breaks_key c v AuthorityCertIssuerEmpty = passes (λ a. passes is_empty a.authority_cert_issuer) v.authority_key_identifier
-breaks_key c v AuthorityCertIssuerAndSerialApart = passes has_half_issuer v.authority_key_identifier
-breaks_key c v ExtendedKeyUsageEmpty = passes (λ u. is_empty u.0) v.extended_key_usage
-breaks_key c v AnyExtendedKeyUsageCritical = passes (λ u. list_any (λ purpose. bytes_eq purpose any_extended_key_usage) u.0) v.extended_key_usage && has_critical (id_ce 37) (extensions_of c)
-breaks_key c v PrivateKeyUsagePeriodEmpty = passes (λ p. not (is_some p.not_before) && not (is_some p.not_after)) v.private_key_usage_period
-
--- ---- the order, and how each is told
+-- ---- the rules, in their order
 
 abbrev pub key_rules : List KeyRule
-key_rules = AuthorityKeyIdentifierAbsent ∷ AuthorityKeyIdentifierWithoutKey ∷ AuthorityCertIssuerEmpty ∷ AuthorityCertIssuerAndSerialApart ∷ ExtendedKeyUsageEmpty ∷ AnyExtendedKeyUsageCritical ∷ PrivateKeyUsagePeriodEmpty ∷ []
+key_rules =
+    rules.AuthorityKeyIdentifierAbsent
+    ∷ rules.AuthorityKeyIdentifierWithoutKey
+    ∷ rules.AuthorityCertIssuerEmpty
+    ∷ rules.AuthorityCertIssuerAndSerialApart
+    ∷ rules.ExtendedKeyUsageEmpty
+    ∷ rules.AnyExtendedKeyUsageCritical
+    ∷ rules.PrivateKeyUsagePeriodEmpty ∷ []
 
-abbrev pub key_wording : KeyRule → Wording
-key_wording AuthorityKeyIdentifierAbsent = must (codes "authority_key_identifier_absent") (codes "4.2.1.1") (codes "tbsCertificate.extensions.authorityKeyIdentifier")
-key_wording AuthorityKeyIdentifierWithoutKey = must (codes "authority_key_identifier_without_key") (codes "4.2.1.1") (codes "tbsCertificate.extensions.authorityKeyIdentifier")
-key_wording AuthorityCertIssuerEmpty = must (codes "authority_cert_issuer_empty") (codes "4.2.1.1") (codes "tbsCertificate.extensions.authorityKeyIdentifier")
-key_wording AuthorityCertIssuerAndSerialApart = must (codes "authority_cert_issuer_and_serial_apart") (codes "4.2.1.1") (codes "tbsCertificate.extensions.authorityKeyIdentifier")
-key_wording ExtendedKeyUsageEmpty = must (codes "extended_key_usage_empty") (codes "4.2.1.12") (codes "tbsCertificate.extensions.extKeyUsage")
-key_wording AnyExtendedKeyUsageCritical = should (codes "any_extended_key_usage_critical") (codes "4.2.1.12") (codes "tbsCertificate.extensions.extKeyUsage")
-key_wording PrivateKeyUsagePeriodEmpty = must (codes "private_key_usage_period_empty") (codes "A.2") (codes "tbsCertificate.extensions.privateKeyUsagePeriod")
+abbrev pub key_sentence : KeyRule → Sentence Certificate KeyValues
+key_sentence rules.AuthorityKeyIdentifierAbsent =
+    must (codes "authority_key_identifier_absent") (codes "4.2.1.1") (codes "tbsCertificate.extensions.authorityKeyIdentifier")
+    (λ c v. is_v3 c.tbs_certificate.version && not (has (id_ce 35) (extensions_of c)) && not (is_self_issued c))
+key_sentence rules.AuthorityKeyIdentifierWithoutKey =
+    must (codes "authority_key_identifier_without_key") (codes "4.2.1.1") (codes "tbsCertificate.extensions.authorityKeyIdentifier")
+    (λ c v. passes (λ a. not (is_some a.key_identifier)) v.authority_key_identifier)
+key_sentence rules.AuthorityCertIssuerEmpty =
+    must (codes "authority_cert_issuer_empty") (codes "4.2.1.1") (codes "tbsCertificate.extensions.authorityKeyIdentifier")
+    (λ c v. passes (λ a. passes is_empty a.authority_cert_issuer) v.authority_key_identifier)
+key_sentence rules.AuthorityCertIssuerAndSerialApart =
+    must (codes "authority_cert_issuer_and_serial_apart") (codes "4.2.1.1") (codes "tbsCertificate.extensions.authorityKeyIdentifier")
+    (λ c v. passes has_half_issuer v.authority_key_identifier)
+key_sentence rules.ExtendedKeyUsageEmpty =
+    must (codes "extended_key_usage_empty") (codes "4.2.1.12") (codes "tbsCertificate.extensions.extKeyUsage")
+    (λ c v. passes (λ u. is_empty u.0) v.extended_key_usage)
+key_sentence rules.AnyExtendedKeyUsageCritical =
+    should (codes "any_extended_key_usage_critical") (codes "4.2.1.12") (codes "tbsCertificate.extensions.extKeyUsage")
+    (λ c v. passes (λ u. list_any (λ purpose. bytes_eq purpose any_extended_key_usage) u.0) v.extended_key_usage && has_critical (id_ce 37) (extensions_of c))
+key_sentence rules.PrivateKeyUsagePeriodEmpty =
+    must (codes "private_key_usage_period_empty") (codes "A.2") (codes "tbsCertificate.extensions.privateKeyUsagePeriod")
+    (λ c v. passes (λ p. not (is_some p.not_before) && not (is_some p.not_after)) v.private_key_usage_period)

@@ -1,4 +1,5 @@
 pub mod Wording
+pub mod Sentence
 pub mod Words
 pub mod Dns
 pub mod Uri
@@ -8,6 +9,7 @@ pub mod Notices
 pub mod Beyond
 pub mod Place
 pub mod Read
+pub mod PublicKey
 pub mod Values
 pub mod Field
 pub mod Text

@@ -1,20 +1,30 @@
 -- The rules on the extensions of a certificate as a list (RFC 5280 4.1.2.9, 4.2): what breaks each, their order, and how each is told.
-use Rattle.std.specs.Prelude.{Bool, not, ℕ, List, [], ◌∷◌, ◌++◌, codes, map}
+use Rattle.std.specs.Prelude.{not, ℕ, List, [], ◌∷◌, ◌++◌, codes}
 use Rattle.x509_lint.specs.Read.{is_read}
 use Rattle.x509_lint.specs.Words.{Certificate, is_empty, passes}
 use Rattle.x509_lint.specs.declared.facts.CertificateFacts.{CertificateFacts}
 use Rattle.x509_lint.specs.declared.rule.list.ExtensionKind.{ExtensionKind}
 use Rattle.x509_lint.specs.declared.rule.list.ExtensionKind.TheVariants as kinds
 use Rattle.x509_lint.specs.declared.rule.list.ListRule.{ListRule}
-use Rattle.x509_lint.specs.declared.rule.list.ListRule.TheVariants.{ExtensionsEmpty, ExtensionRepeated, ExtensionMalformed}
-use Rattle.x509_lint.specs.Wording.{Wording, must}
+use Rattle.x509_lint.specs.declared.rule.list.ListRule.TheVariants as rules
+use Rattle.x509_lint.specs.Sentence.{Sentence, must}
 
-abbrev pub breaks_list : Certificate → CertificateFacts → ListRule → Bool
-breaks_list c facts ExtensionsEmpty = passes is_empty c.tbs_certificate.extensions
-breaks_list c facts ExtensionRepeated = facts.is_repeated
-breaks_list c facts (ExtensionMalformed kind) = not (is_read facts.read kind)
+-- ---- the rules, in their order
 
--- ---- the order, and how each is told
+abbrev pub list_rules : List ListRule
+list_rules =
+    rules.ExtensionsEmpty
+    ∷ rules.ExtensionRepeated ∷ []
+
+abbrev pub list_sentence : ListRule → Sentence Certificate CertificateFacts
+list_sentence rules.ExtensionsEmpty =
+    must (codes "extensions_empty") (codes "4.1.2.9") (codes "tbsCertificate.extensions")
+    (λ c facts. passes is_empty c.tbs_certificate.extensions)
+list_sentence rules.ExtensionRepeated =
+    must (codes "extension_repeated") (codes "4.2") (codes "tbsCertificate.extensions")
+    (λ c facts. facts.is_repeated)
+
+-- ---- of each type of extension, that one of it is malformed
 
 abbrev pub extension_kinds : List ExtensionKind
 extension_kinds =
@@ -36,9 +46,6 @@ extension_kinds =
     ∷ kinds.InhibitAnyPolicy
     ∷ kinds.CrlDistributionPoints
     ∷ kinds.FreshestCrl ∷ []
-
-abbrev pub list_rules : List ListRule
-list_rules = ExtensionsEmpty ∷ ExtensionRepeated ∷ map ExtensionMalformed extension_kinds
 
 -- the name of an extension of the type
 abbrev pub extension_text : ExtensionKind → List ℕ
@@ -65,7 +72,7 @@ extension_text kinds.FreshestCrl = codes "freshestCRL"
 abbrev pub extension_place : ExtensionKind → List ℕ
 extension_place kind = codes "tbsCertificate.extensions." ++ extension_text kind
 
-abbrev pub list_wording : ListRule → Wording
-list_wording ExtensionsEmpty = must (codes "extensions_empty") (codes "4.1.2.9") (codes "tbsCertificate.extensions")
-list_wording ExtensionRepeated = must (codes "extension_repeated") (codes "4.2") (codes "tbsCertificate.extensions")
-list_wording (ExtensionMalformed kind) = must (codes "extension_malformed") (codes "4.2") (extension_place kind)
+abbrev pub malformed_sentence : ExtensionKind → Sentence Certificate CertificateFacts
+malformed_sentence kind =
+    must (codes "extension_malformed") (codes "4.2") (extension_place kind)
+    (λ c facts. not (is_read facts.read kind))

@@ -1,5 +1,5 @@
 -- The rules on the issuer and the subject of a certificate (RFC 5280 4.1.2.4, 4.1.2.6): what breaks each, their order, and how each is told.
-use Rattle.std.specs.Prelude.{◌&&◌, ◌||◌, ◌==◌, ℕ, Bool, true, false, not, nat_le, List, [], ◌∷◌, length, bytes_eq, codes}
+use Rattle.std.specs.Prelude.{◌&&◌, ◌==◌, Bool, true, false, not, List, [], ◌∷◌, length, bytes_eq, codes}
 use Rattle.std.specs.List.{list_all, list_any}
 use Rattle.x509_der.specs.declared.tag.Tag.{Tag}
 use Rattle.x509_der.specs.declared.tag.Tag.TheVariants.{PrintableString}
@@ -13,8 +13,8 @@ use Rattle.x509_lint.specs.declared.texts.TextFault.TheVariants.{OtherType, OldT
 use Rattle.x509_lint.specs.Words.{Certificate, extensions_of, has_critical, is_empty}
 use Rattle.x509_lint.specs.declared.facts.CertificateFacts.{CertificateFacts}
 use Rattle.x509_lint.specs.declared.rule.name.NameRule.{NameRule}
-use Rattle.x509_lint.specs.declared.rule.name.NameRule.TheVariants.{IssuerRdnEmpty, IssuerCountryNameInvalid, IssuerTextType, IssuerTextOldType, IssuerTextCharacters, IssuerTextSize, SubjectRdnEmpty, SubjectCountryNameInvalid, SubjectTextType, SubjectTextOldType, SubjectTextCharacters, SubjectTextSize, SubjectEmptyWithoutCriticalAltName}
-use Rattle.x509_lint.specs.Wording.{Wording, must, should}
+use Rattle.x509_lint.specs.declared.rule.name.NameRule.TheVariants as rules
+use Rattle.x509_lint.specs.Sentence.{Sentence, must, should}
 
 abbrev pub is_printable : Tag → Bool
 is_printable PrintableString = true
@@ -35,37 +35,61 @@ has_no_country rdns = list_any (λ rdn. list_any is_no_country rdn) rdns
 abbrev pub has_empty_rdn : List (List AttributeTypeAndValue) → Bool
 has_empty_rdn rdns = list_any (λ rdn. is_empty rdn) rdns
 
-abbrev pub breaks_name : Certificate → CertificateFacts → NameRule → Bool
-breaks_name c facts IssuerRdnEmpty = has_empty_rdn c.tbs_certificate.issuer
-breaks_name c facts IssuerCountryNameInvalid = has_no_country c.tbs_certificate.issuer
-breaks_name c facts IssuerTextType = has_faulty_text OtherType c.tbs_certificate.issuer
-breaks_name c facts IssuerTextOldType = has_faulty_text OldType c.tbs_certificate.issuer
-breaks_name c facts IssuerTextCharacters = has_faulty_text OtherCharacter c.tbs_certificate.issuer
-breaks_name c facts IssuerTextSize = has_faulty_text Size c.tbs_certificate.issuer
-breaks_name c facts SubjectRdnEmpty = has_empty_rdn c.tbs_certificate.subject
-breaks_name c facts SubjectCountryNameInvalid = has_no_country c.tbs_certificate.subject
-breaks_name c facts SubjectTextType = has_faulty_text OtherType c.tbs_certificate.subject
-breaks_name c facts SubjectTextOldType = has_faulty_text OldType c.tbs_certificate.subject
-breaks_name c facts SubjectTextCharacters = has_faulty_text OtherCharacter c.tbs_certificate.subject
-breaks_name c facts SubjectTextSize = has_faulty_text Size c.tbs_certificate.subject
-breaks_name c facts SubjectEmptyWithoutCriticalAltName = is_empty c.tbs_certificate.subject && not (has_critical (id_ce 17) (extensions_of c))
-
--- ---- the order, and how each is told
+-- ---- the rules, in their order
 
 abbrev pub name_rules : List NameRule
-name_rules = IssuerRdnEmpty ∷ IssuerCountryNameInvalid ∷ IssuerTextType ∷ IssuerTextOldType ∷ IssuerTextCharacters ∷ IssuerTextSize ∷ SubjectRdnEmpty ∷ SubjectCountryNameInvalid ∷ SubjectTextType ∷ SubjectTextOldType ∷ SubjectTextCharacters ∷ SubjectTextSize ∷ SubjectEmptyWithoutCriticalAltName ∷ []
+name_rules =
+    rules.IssuerRdnEmpty
+    ∷ rules.IssuerCountryNameInvalid
+    ∷ rules.IssuerTextType
+    ∷ rules.IssuerTextOldType
+    ∷ rules.IssuerTextCharacters
+    ∷ rules.IssuerTextSize
+    ∷ rules.SubjectRdnEmpty
+    ∷ rules.SubjectCountryNameInvalid
+    ∷ rules.SubjectTextType
+    ∷ rules.SubjectTextOldType
+    ∷ rules.SubjectTextCharacters
+    ∷ rules.SubjectTextSize
+    ∷ rules.SubjectEmptyWithoutCriticalAltName ∷ []
 
-abbrev pub name_wording : NameRule → Wording
-name_wording IssuerRdnEmpty = must (codes "issuer_rdn_empty") (codes "4.1.2.4") (codes "tbsCertificate.issuer")
-name_wording IssuerCountryNameInvalid = must (codes "issuer_country_name_invalid") (codes "A.1") (codes "tbsCertificate.issuer")
-name_wording IssuerTextType = must (codes "issuer_text_type") (codes "A.1") (codes "tbsCertificate.issuer")
-name_wording IssuerTextOldType = should (codes "issuer_text_old_type") (codes "4.1.2.4") (codes "tbsCertificate.issuer")
-name_wording IssuerTextCharacters = must (codes "issuer_text_characters") (codes "4.1.2.4") (codes "tbsCertificate.issuer")
-name_wording IssuerTextSize = must (codes "issuer_text_size") (codes "A.1") (codes "tbsCertificate.issuer")
-name_wording SubjectRdnEmpty = must (codes "subject_rdn_empty") (codes "4.1.2.6") (codes "tbsCertificate.subject")
-name_wording SubjectCountryNameInvalid = must (codes "subject_country_name_invalid") (codes "A.1") (codes "tbsCertificate.subject")
-name_wording SubjectTextType = must (codes "subject_text_type") (codes "A.1") (codes "tbsCertificate.subject")
-name_wording SubjectTextOldType = should (codes "subject_text_old_type") (codes "4.1.2.6") (codes "tbsCertificate.subject")
-name_wording SubjectTextCharacters = must (codes "subject_text_characters") (codes "4.1.2.6") (codes "tbsCertificate.subject")
-name_wording SubjectTextSize = must (codes "subject_text_size") (codes "A.1") (codes "tbsCertificate.subject")
-name_wording SubjectEmptyWithoutCriticalAltName = must (codes "subject_empty_without_critical_alt_name") (codes "4.1.2.6") (codes "tbsCertificate.subject")
+abbrev pub name_sentence : NameRule → Sentence Certificate CertificateFacts
+name_sentence rules.IssuerRdnEmpty =
+    must (codes "issuer_rdn_empty") (codes "4.1.2.4") (codes "tbsCertificate.issuer")
+    (λ c facts. has_empty_rdn c.tbs_certificate.issuer)
+name_sentence rules.IssuerCountryNameInvalid =
+    must (codes "issuer_country_name_invalid") (codes "A.1") (codes "tbsCertificate.issuer")
+    (λ c facts. has_no_country c.tbs_certificate.issuer)
+name_sentence rules.IssuerTextType =
+    must (codes "issuer_text_type") (codes "A.1") (codes "tbsCertificate.issuer")
+    (λ c facts. has_faulty_text OtherType c.tbs_certificate.issuer)
+name_sentence rules.IssuerTextOldType =
+    should (codes "issuer_text_old_type") (codes "4.1.2.4") (codes "tbsCertificate.issuer")
+    (λ c facts. has_faulty_text OldType c.tbs_certificate.issuer)
+name_sentence rules.IssuerTextCharacters =
+    must (codes "issuer_text_characters") (codes "4.1.2.4") (codes "tbsCertificate.issuer")
+    (λ c facts. has_faulty_text OtherCharacter c.tbs_certificate.issuer)
+name_sentence rules.IssuerTextSize =
+    must (codes "issuer_text_size") (codes "A.1") (codes "tbsCertificate.issuer")
+    (λ c facts. has_faulty_text Size c.tbs_certificate.issuer)
+name_sentence rules.SubjectRdnEmpty =
+    must (codes "subject_rdn_empty") (codes "4.1.2.6") (codes "tbsCertificate.subject")
+    (λ c facts. has_empty_rdn c.tbs_certificate.subject)
+name_sentence rules.SubjectCountryNameInvalid =
+    must (codes "subject_country_name_invalid") (codes "A.1") (codes "tbsCertificate.subject")
+    (λ c facts. has_no_country c.tbs_certificate.subject)
+name_sentence rules.SubjectTextType =
+    must (codes "subject_text_type") (codes "A.1") (codes "tbsCertificate.subject")
+    (λ c facts. has_faulty_text OtherType c.tbs_certificate.subject)
+name_sentence rules.SubjectTextOldType =
+    should (codes "subject_text_old_type") (codes "4.1.2.6") (codes "tbsCertificate.subject")
+    (λ c facts. has_faulty_text OldType c.tbs_certificate.subject)
+name_sentence rules.SubjectTextCharacters =
+    must (codes "subject_text_characters") (codes "4.1.2.6") (codes "tbsCertificate.subject")
+    (λ c facts. has_faulty_text OtherCharacter c.tbs_certificate.subject)
+name_sentence rules.SubjectTextSize =
+    must (codes "subject_text_size") (codes "A.1") (codes "tbsCertificate.subject")
+    (λ c facts. has_faulty_text Size c.tbs_certificate.subject)
+name_sentence rules.SubjectEmptyWithoutCriticalAltName =
+    must (codes "subject_empty_without_critical_alt_name") (codes "4.1.2.6") (codes "tbsCertificate.subject")
+    (λ c facts. is_empty c.tbs_certificate.subject && not (has_critical (id_ce 17) (extensions_of c)))

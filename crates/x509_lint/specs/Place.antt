@@ -1,5 +1,5 @@
 -- Places where CRLs and certificates are found: distribution points and access descriptions (RFC 5280 4.2.1.13, 4.2.2).
-use Rattle.std.specs.Prelude.{◌&&◌, ◌||◌, ◌==◌, ℕ, Bool, true, false, not, nat_lt, length, List, [], ◌∷◌, bytes_eq, is_some}
+use Rattle.std.specs.Prelude.{◌&&◌, ◌||◌, ◌==◌, ℕ, Bool, true, false, not, nat_lt, length, List, bytes_eq, is_some}
 use Rattle.std.specs.List.{list_all, list_any, slice_get}
 use Rattle.std.specs.Int.RustNames.{bit_and}
 use Rattle.x509_ext.specs.Identifiers.{id_pkix}
@@ -8,7 +8,7 @@ use Rattle.x509_ext.specs.declared.pkix.distribution_point.DistributionPoint.{Di
 use Rattle.x509_ext.specs.declared.pkix.name.distribution_point_name.DistributionPointName.{DistributionPointName}
 use Rattle.x509_ext.specs.declared.pkix.name.distribution_point_name.DistributionPointName.TheVariants.{FullName, NameRelativeToCRLIssuer}
 use Rattle.x509_ext.specs.declared.pkix.name.general_name.GeneralName.{GeneralName}
-use Rattle.x509_ext.specs.declared.pkix.name.general_name.GeneralName.TheVariants.{OtherName, Rfc822Name, DnsName, DirectoryName, EdiPartyName, UniformResourceIdentifier, IpAddress, RegisteredId}
+use Rattle.x509_ext.specs.declared.pkix.name.general_name.GeneralName.TheVariants.{DirectoryName, UniformResourceIdentifier}
 use Rattle.x509_ext.specs.declared.pkix.reasons.Reasons.{Reasons}
 use Rattle.x509_name.specs.Names.{rdn_sequence_eq}
 use Rattle.x509_name.specs.declared.attr.type_and_value.AttributeTypeAndValue.{AttributeTypeAndValue}

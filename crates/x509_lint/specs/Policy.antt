@@ -8,8 +8,8 @@ use Rattle.x509_ext.specs.declared.pkix.policy_mapping.PolicyMapping.{PolicyMapp
 use Rattle.x509_lint.specs.Words.{Certificate, extensions_of, has, is_empty, passes}
 use Rattle.x509_lint.specs.declared.values.PolicyValues.{PolicyValues}
 use Rattle.x509_lint.specs.declared.rule.policy.PolicyRule.{PolicyRule}
-use Rattle.x509_lint.specs.declared.rule.policy.PolicyRule.TheVariants.{CertificatePoliciesEmpty, CertificatePolicyRepeated, PolicyQualifiersEmpty, AnyPolicyQualifierInvalid, ExplicitTextTooLong, ExplicitTextEmpty, ExplicitTextType, ExplicitTextNotUtf8String, ExplicitTextControl, NoticeReferencePresent, ExplicitTextNotNormalized, PolicyMappingsEmpty, PolicyMappingAnyPolicy, PolicyMappingNotAsserted, PolicyConstraintsEmpty}
-use Rattle.x509_lint.specs.Wording.{Wording, must, must_of, should, should_of}
+use Rattle.x509_lint.specs.declared.rule.policy.PolicyRule.TheVariants as rules
+use Rattle.x509_lint.specs.Sentence.{Sentence, must, must_of, should, should_of}
 
 -- the content octets of 2.5.29.32.0, anyPolicy (RFC 5280 4.2.1.4)
 abbrev pub any_policy : List ℕ
@@ -30,41 +30,69 @@ is_other_qualifier q = not (bytes_eq q.policy_qualifier_id (id_pkix 2 1)) && not
 abbrev pub has_other_qualifier : PolicyInformation → Bool
 has_other_qualifier p = bytes_eq p.policy_identifier any_policy && passes (λ qualifiers. list_any is_other_qualifier qualifiers) p.policy_qualifiers
 
-abbrev pub breaks_policy : Certificate → PolicyValues → PolicyRule → Bool
-breaks_policy c v CertificatePoliciesEmpty = passes (λ p. is_empty p.0) v.certificate_policies
-breaks_policy c v CertificatePolicyRepeated = not v.are_policies_distinct
-breaks_policy c v PolicyQualifiersEmpty = passes (λ p. list_any (λ policy. passes is_empty policy.policy_qualifiers) p.0) v.certificate_policies
-breaks_policy c v AnyPolicyQualifierInvalid = passes (λ p. list_any has_other_qualifier p.0) v.certificate_policies
-breaks_policy c v ExplicitTextTooLong = v.has_long_text
-breaks_policy c v ExplicitTextEmpty = v.has_empty_text
-breaks_policy c v ExplicitTextType = v.has_ia5_text
-breaks_policy c v ExplicitTextNotUtf8String = v.has_old_text
-breaks_policy c v ExplicitTextControl = v.has_control
-breaks_policy c v NoticeReferencePresent = v.has_reference
-breaks_policy c v ExplicitTextNotNormalized = v.has_unnormalized
-breaks_policy c v PolicyMappingsEmpty = passes (λ m. is_empty m.0) v.policy_mappings
-breaks_policy c v PolicyMappingAnyPolicy = passes (λ m. list_any is_of_any_policy m.0) v.policy_mappings
-breaks_policy c v PolicyMappingNotAsserted = are_policies_known c v && v.has_unasserted_mapping
-breaks_policy c v PolicyConstraintsEmpty = passes (λ p. not (is_some p.require_explicit_policy) && not (is_some p.inhibit_policy_mapping)) v.policy_constraints
-
--- ---- the order, and how each is told
+-- ---- the rules, in their order
 
 abbrev pub policy_rules : List PolicyRule
-policy_rules = CertificatePoliciesEmpty ∷ CertificatePolicyRepeated ∷ PolicyQualifiersEmpty ∷ AnyPolicyQualifierInvalid ∷ ExplicitTextTooLong ∷ ExplicitTextEmpty ∷ ExplicitTextType ∷ ExplicitTextNotUtf8String ∷ ExplicitTextControl ∷ NoticeReferencePresent ∷ ExplicitTextNotNormalized ∷ PolicyMappingsEmpty ∷ PolicyMappingAnyPolicy ∷ PolicyMappingNotAsserted ∷ PolicyConstraintsEmpty ∷ []
+policy_rules =
+    rules.CertificatePoliciesEmpty
+    ∷ rules.CertificatePolicyRepeated
+    ∷ rules.PolicyQualifiersEmpty
+    ∷ rules.AnyPolicyQualifierInvalid
+    ∷ rules.ExplicitTextTooLong
+    ∷ rules.ExplicitTextEmpty
+    ∷ rules.ExplicitTextType
+    ∷ rules.ExplicitTextNotUtf8String
+    ∷ rules.ExplicitTextControl
+    ∷ rules.NoticeReferencePresent
+    ∷ rules.ExplicitTextNotNormalized
+    ∷ rules.PolicyMappingsEmpty
+    ∷ rules.PolicyMappingAnyPolicy
+    ∷ rules.PolicyMappingNotAsserted
+    ∷ rules.PolicyConstraintsEmpty ∷ []
 
-abbrev pub policy_wording : PolicyRule → Wording
-policy_wording CertificatePoliciesEmpty = must (codes "certificate_policies_empty") (codes "4.2.1.4") (codes "tbsCertificate.extensions.certificatePolicies")
-policy_wording CertificatePolicyRepeated = must (codes "certificate_policy_repeated") (codes "4.2.1.4") (codes "tbsCertificate.extensions.certificatePolicies")
-policy_wording PolicyQualifiersEmpty = must (codes "policy_qualifiers_empty") (codes "4.2.1.4") (codes "tbsCertificate.extensions.certificatePolicies")
-policy_wording AnyPolicyQualifierInvalid = must (codes "any_policy_qualifier_invalid") (codes "4.2.1.4") (codes "tbsCertificate.extensions.certificatePolicies")
-policy_wording ExplicitTextTooLong = must (codes "explicit_text_too_long") (codes "4.2.1.4") (codes "tbsCertificate.extensions.certificatePolicies")
-policy_wording ExplicitTextEmpty = must (codes "explicit_text_empty") (codes "4.2.1.4") (codes "tbsCertificate.extensions.certificatePolicies")
-policy_wording ExplicitTextType = must_of (codes "RFC 6818") (codes "explicit_text_type") (codes "3") (codes "tbsCertificate.extensions.certificatePolicies")
-policy_wording ExplicitTextNotUtf8String = should_of (codes "RFC 6818") (codes "explicit_text_not_utf8_string") (codes "3") (codes "tbsCertificate.extensions.certificatePolicies")
-policy_wording ExplicitTextControl = should (codes "explicit_text_control") (codes "4.2.1.4") (codes "tbsCertificate.extensions.certificatePolicies")
-policy_wording NoticeReferencePresent = should (codes "notice_reference_present") (codes "4.2.1.4") (codes "tbsCertificate.extensions.certificatePolicies")
-policy_wording ExplicitTextNotNormalized = should (codes "explicit_text_not_normalized") (codes "4.2.1.4") (codes "tbsCertificate.extensions.certificatePolicies")
-policy_wording PolicyMappingsEmpty = must (codes "policy_mappings_empty") (codes "4.2.1.5") (codes "tbsCertificate.extensions.policyMappings")
-policy_wording PolicyMappingAnyPolicy = must (codes "policy_mapping_any_policy") (codes "4.2.1.5") (codes "tbsCertificate.extensions.policyMappings")
-policy_wording PolicyMappingNotAsserted = should (codes "policy_mapping_not_asserted") (codes "4.2.1.5") (codes "tbsCertificate.extensions.policyMappings")
-policy_wording PolicyConstraintsEmpty = must (codes "policy_constraints_empty") (codes "4.2.1.11") (codes "tbsCertificate.extensions.policyConstraints")
+abbrev pub policy_sentence : PolicyRule → Sentence Certificate PolicyValues
+policy_sentence rules.CertificatePoliciesEmpty =
+    must (codes "certificate_policies_empty") (codes "4.2.1.4") (codes "tbsCertificate.extensions.certificatePolicies")
+    (λ c v. passes (λ p. is_empty p.0) v.certificate_policies)
+policy_sentence rules.CertificatePolicyRepeated =
+    must (codes "certificate_policy_repeated") (codes "4.2.1.4") (codes "tbsCertificate.extensions.certificatePolicies")
+    (λ c v. not v.are_policies_distinct)
+policy_sentence rules.PolicyQualifiersEmpty =
+    must (codes "policy_qualifiers_empty") (codes "4.2.1.4") (codes "tbsCertificate.extensions.certificatePolicies")
+    (λ c v. passes (λ p. list_any (λ policy. passes is_empty policy.policy_qualifiers) p.0) v.certificate_policies)
+policy_sentence rules.AnyPolicyQualifierInvalid =
+    must (codes "any_policy_qualifier_invalid") (codes "4.2.1.4") (codes "tbsCertificate.extensions.certificatePolicies")
+    (λ c v. passes (λ p. list_any has_other_qualifier p.0) v.certificate_policies)
+policy_sentence rules.ExplicitTextTooLong =
+    must (codes "explicit_text_too_long") (codes "4.2.1.4") (codes "tbsCertificate.extensions.certificatePolicies")
+    (λ c v. v.has_long_text)
+policy_sentence rules.ExplicitTextEmpty =
+    must (codes "explicit_text_empty") (codes "4.2.1.4") (codes "tbsCertificate.extensions.certificatePolicies")
+    (λ c v. v.has_empty_text)
+policy_sentence rules.ExplicitTextType =
+    must_of (codes "RFC 6818") (codes "explicit_text_type") (codes "3") (codes "tbsCertificate.extensions.certificatePolicies")
+    (λ c v. v.has_ia5_text)
+policy_sentence rules.ExplicitTextNotUtf8String =
+    should_of (codes "RFC 6818") (codes "explicit_text_not_utf8_string") (codes "3") (codes "tbsCertificate.extensions.certificatePolicies")
+    (λ c v. v.has_old_text)
+policy_sentence rules.ExplicitTextControl =
+    should (codes "explicit_text_control") (codes "4.2.1.4") (codes "tbsCertificate.extensions.certificatePolicies")
+    (λ c v. v.has_control)
+policy_sentence rules.NoticeReferencePresent =
+    should (codes "notice_reference_present") (codes "4.2.1.4") (codes "tbsCertificate.extensions.certificatePolicies")
+    (λ c v. v.has_reference)
+policy_sentence rules.ExplicitTextNotNormalized =
+    should (codes "explicit_text_not_normalized") (codes "4.2.1.4") (codes "tbsCertificate.extensions.certificatePolicies")
+    (λ c v. v.has_unnormalized)
+policy_sentence rules.PolicyMappingsEmpty =
+    must (codes "policy_mappings_empty") (codes "4.2.1.5") (codes "tbsCertificate.extensions.policyMappings")
+    (λ c v. passes (λ m. is_empty m.0) v.policy_mappings)
+policy_sentence rules.PolicyMappingAnyPolicy =
+    must (codes "policy_mapping_any_policy") (codes "4.2.1.5") (codes "tbsCertificate.extensions.policyMappings")
+    (λ c v. passes (λ m. list_any is_of_any_policy m.0) v.policy_mappings)
+policy_sentence rules.PolicyMappingNotAsserted =
+    should (codes "policy_mapping_not_asserted") (codes "4.2.1.5") (codes "tbsCertificate.extensions.policyMappings")
+    (λ c v. are_policies_known c v && v.has_unasserted_mapping)
+policy_sentence rules.PolicyConstraintsEmpty =
+    must (codes "policy_constraints_empty") (codes "4.2.1.11") (codes "tbsCertificate.extensions.policyConstraints")
+    (λ c v. passes (λ p. not (is_some p.require_explicit_policy) && not (is_some p.inhibit_policy_mapping)) v.policy_constraints)

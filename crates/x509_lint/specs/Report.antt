@@ -10,7 +10,6 @@ use Rattle.x509_der.specs.declared.error.ErrorKind.{ErrorKind}
 use Rattle.x509_lint.specs.Rules.{AreAnchorFindings, AreCrlFindings, AreFindings, AreRequestFindings, rule_wording}
 use Rattle.x509_lint.specs.Seen.{anchor_seen, certificate_seen, crl_seen, request_seen}
 use Rattle.x509_lint.specs.Wording.{Wording, severity_text, which_text, wording_text}
-use Rattle.x509_lint.specs.Words.{Certificate, Crl}
 use Rattle.x509_lint.specs.declared.entry.Severity.{Severity}
 use Rattle.x509_lint.specs.declared.entry.Severity.TheVariants.{Error, Warning, NotJudged}
 use Rattle.x509_lint.specs.declared.report.Kind.{Kind}

@@ -18,7 +18,7 @@ use Rattle.x509_ext.specs.Identifiers.{id_ce}
 use Rattle.x509_ext.specs.LookUp.{IsRepeated}
 use Rattle.x509_ext.specs.declared.extension.Extension.{Extension}
 use Rattle.x509_lint.specs.Alternative.{is_at_other_host, is_empty_name, is_no_address, is_no_dns_name, is_no_mailbox, is_no_uri, is_relative}
-use Rattle.x509_lint.specs.List.{extension_kinds, extension_text}
+use Rattle.x509_lint.specs.List.{extension_text}
 use Rattle.x509_lint.specs.Name.{has_empty_rdn, has_no_country}
 use Rattle.x509_lint.specs.Notices.{value_read}
 use Rattle.x509_lint.specs.Read.{AreExtensionsRead, is_read}
@@ -29,9 +29,11 @@ use Rattle.x509_lint.specs.declared.request.passwords.PasswordFault.TheVariants 
 use Rattle.x509_lint.specs.declared.request.values.RequestValues.{RequestValues}
 use Rattle.x509_lint.specs.declared.rule.list.ExtensionKind.{ExtensionKind}
 use Rattle.x509_lint.specs.declared.rule.request.RequestRule.{RequestRule}
-use Rattle.x509_lint.specs.declared.rule.request.RequestRule.TheVariants.{SubjectRdnEmpty, SubjectCountryNameInvalid, SubjectTextType, SubjectTextOldType, SubjectTextCharacters, SubjectTextSize, SubjectEmptyWithoutAltName, AttributeRepeated, AttributeValuesEmpty, ChallengePasswordValues, ChallengePasswordMalformed, ChallengePasswordSize, ChallengePasswordType, ExtensionRequestValues, ExtensionRequestMalformed, ExtensionsEmpty, ExtensionRepeated, ExtensionMalformed, SubjectAltNameEmpty, SubjectAltNameEmptyName, SubjectAltNameDnsNameInvalid, SubjectAltNameAddressLength, SubjectAltNameMailboxInvalid, SubjectAltNameUriRelative, SubjectAltNameUriInvalid, SubjectAltNameUriHostInvalid}
+use Rattle.x509_lint.specs.declared.rule.request.RequestRule.TheVariants as rules
+use Rattle.x509_lint.specs.declared.rule.request.RequestNameRule.{RequestNameRule}
+use Rattle.x509_lint.specs.declared.rule.request.RequestNameRule.TheVariants as names
 use Rattle.x509_lint.specs.declared.texts.TextFault.TheVariants.{OtherType, OldType, OtherCharacter, Size}
-use Rattle.x509_lint.specs.Wording.{Wording, must, must_of, should, should_of}
+use Rattle.x509_lint.specs.Sentence.{Sentence, must, must_of, should, should_of}
 use Rattle.x509_name.specs.declared.attr.attribute.Attribute.{Attribute}
 
 -- ---- attributes (RFC 2986 4.1)
@@ -113,69 +115,127 @@ AreRequestValues r v =
     × AreExtensionsRead (requested_extensions v.requested) v.read
     × IsValue subject_alt_name (id_ce 17) (requested_extensions v.requested) v.subject_alt_name
 
-abbrev pub breaks_request : CertReq → RequestValues → RequestRule → Bool
-breaks_request r v SubjectRdnEmpty = has_empty_rdn r.info.subject
-breaks_request r v SubjectCountryNameInvalid = has_no_country r.info.subject
-breaks_request r v SubjectTextType = has_faulty_text OtherType r.info.subject
-breaks_request r v SubjectTextOldType = has_faulty_text OldType r.info.subject
-breaks_request r v SubjectTextCharacters = has_faulty_text OtherCharacter r.info.subject
-breaks_request r v SubjectTextSize = has_faulty_text Size r.info.subject
-breaks_request r v SubjectEmptyWithoutAltName = is_empty r.info.subject && not (has (id_ce 17) (requested_extensions v.requested))
-breaks_request r v AttributeRepeated = not v.are_types_distinct
-breaks_request r v AttributeValuesEmpty = list_any (λ a. is_empty a.values) r.info.attributes
-breaks_request r v ChallengePasswordValues = has_several_values (pkcs_9 7) r.info.attributes
-breaks_request r v ChallengePasswordMalformed = v.is_password_malformed
-breaks_request r v ChallengePasswordSize = has_faulty_password passwords.Size r.info.attributes
-breaks_request r v ChallengePasswordType = has_faulty_password passwords.OtherType r.info.attributes
-breaks_request r v ExtensionRequestValues = has_several_values (pkcs_9 14) r.info.attributes
-breaks_request r v ExtensionRequestMalformed = v.is_request_malformed
-breaks_request r v ExtensionsEmpty = passes (λ q. is_empty q.0) v.requested
-breaks_request r v ExtensionRepeated = v.is_repeated
-breaks_request r v (ExtensionMalformed kind) = not (is_read v.read kind)
-breaks_request r v SubjectAltNameEmpty = passes (λ s. is_empty s.0) v.subject_alt_name
-breaks_request r v SubjectAltNameEmptyName = passes (λ s. list_any is_empty_name s.0) v.subject_alt_name
-breaks_request r v SubjectAltNameDnsNameInvalid = passes (λ s. list_any is_no_dns_name s.0) v.subject_alt_name
-breaks_request r v SubjectAltNameAddressLength = passes (λ s. list_any is_no_address s.0) v.subject_alt_name
-breaks_request r v SubjectAltNameMailboxInvalid = passes (λ s. list_any is_no_mailbox s.0) v.subject_alt_name
-breaks_request r v SubjectAltNameUriRelative = passes (λ s. list_any is_relative s.0) v.subject_alt_name
-breaks_request r v SubjectAltNameUriInvalid = passes (λ s. list_any is_no_uri s.0) v.subject_alt_name
-breaks_request r v SubjectAltNameUriHostInvalid = passes (λ s. list_any is_at_other_host s.0) v.subject_alt_name
-
--- ---- the order, and how each is told
+-- ---- the rules, in their order
 
 abbrev pub request_rules : List RequestRule
 request_rules =
-    SubjectRdnEmpty ∷ SubjectCountryNameInvalid ∷ SubjectTextType ∷ SubjectTextOldType ∷ SubjectTextCharacters ∷ SubjectTextSize ∷ SubjectEmptyWithoutAltName ∷ AttributeRepeated ∷ AttributeValuesEmpty ∷ ChallengePasswordValues ∷ ChallengePasswordMalformed ∷ ChallengePasswordSize ∷ ChallengePasswordType ∷ ExtensionRequestValues ∷ ExtensionRequestMalformed ∷ ExtensionsEmpty ∷ ExtensionRepeated
-    ∷ (map ExtensionMalformed extension_kinds ++ SubjectAltNameEmpty ∷ SubjectAltNameEmptyName ∷ SubjectAltNameDnsNameInvalid ∷ SubjectAltNameAddressLength ∷ SubjectAltNameMailboxInvalid ∷ SubjectAltNameUriRelative ∷ SubjectAltNameUriInvalid ∷ SubjectAltNameUriHostInvalid ∷ [])
+    rules.SubjectRdnEmpty
+    ∷ rules.SubjectCountryNameInvalid
+    ∷ rules.SubjectTextType
+    ∷ rules.SubjectTextOldType
+    ∷ rules.SubjectTextCharacters
+    ∷ rules.SubjectTextSize
+    ∷ rules.SubjectEmptyWithoutAltName
+    ∷ rules.AttributeRepeated
+    ∷ rules.AttributeValuesEmpty
+    ∷ rules.ChallengePasswordValues
+    ∷ rules.ChallengePasswordMalformed
+    ∷ rules.ChallengePasswordSize
+    ∷ rules.ChallengePasswordType
+    ∷ rules.ExtensionRequestValues
+    ∷ rules.ExtensionRequestMalformed
+    ∷ rules.ExtensionsEmpty
+    ∷ rules.ExtensionRepeated ∷ []
+
+abbrev pub request_sentence : RequestRule → Sentence CertReq RequestValues
+request_sentence rules.SubjectRdnEmpty =
+    must (codes "subject_rdn_empty") (codes "4.1.2.6") (codes "certificationRequestInfo.subject")
+    (λ r v. has_empty_rdn r.info.subject)
+request_sentence rules.SubjectCountryNameInvalid =
+    must (codes "subject_country_name_invalid") (codes "A.1") (codes "certificationRequestInfo.subject")
+    (λ r v. has_no_country r.info.subject)
+request_sentence rules.SubjectTextType =
+    must (codes "subject_text_type") (codes "A.1") (codes "certificationRequestInfo.subject")
+    (λ r v. has_faulty_text OtherType r.info.subject)
+request_sentence rules.SubjectTextOldType =
+    should (codes "subject_text_old_type") (codes "4.1.2.6") (codes "certificationRequestInfo.subject")
+    (λ r v. has_faulty_text OldType r.info.subject)
+request_sentence rules.SubjectTextCharacters =
+    must (codes "subject_text_characters") (codes "4.1.2.6") (codes "certificationRequestInfo.subject")
+    (λ r v. has_faulty_text OtherCharacter r.info.subject)
+request_sentence rules.SubjectTextSize =
+    must (codes "subject_text_size") (codes "A.1") (codes "certificationRequestInfo.subject")
+    (λ r v. has_faulty_text Size r.info.subject)
+request_sentence rules.SubjectEmptyWithoutAltName =
+    must (codes "subject_empty_without_alt_name") (codes "4.1.2.6") (codes "certificationRequestInfo.subject")
+    (λ r v. is_empty r.info.subject && not (has (id_ce 17) (requested_extensions v.requested)))
+request_sentence rules.AttributeRepeated =
+    should_of (codes "RFC 2986") (codes "attribute_repeated") (codes "4.1") (codes "certificationRequestInfo.attributes")
+    (λ r v. not v.are_types_distinct)
+request_sentence rules.AttributeValuesEmpty =
+    must_of (codes "RFC 2986") (codes "attribute_values_empty") (codes "4.1") (codes "certificationRequestInfo.attributes")
+    (λ r v. list_any (λ a. is_empty a.values) r.info.attributes)
+request_sentence rules.ChallengePasswordValues =
+    must_of (codes "RFC 2985") (codes "challenge_password_several_values") (codes "5.4.1") (codes "certificationRequestInfo.attributes.challengePassword")
+    (λ r v. has_several_values (pkcs_9 7) r.info.attributes)
+request_sentence rules.ChallengePasswordMalformed =
+    must_of (codes "RFC 2985") (codes "challenge_password_malformed") (codes "5.4.1") (codes "certificationRequestInfo.attributes.challengePassword")
+    (λ r v. v.is_password_malformed)
+request_sentence rules.ChallengePasswordSize =
+    must_of (codes "RFC 2985") (codes "challenge_password_size") (codes "5.4.1") (codes "certificationRequestInfo.attributes.challengePassword")
+    (λ r v. has_faulty_password passwords.Size r.info.attributes)
+request_sentence rules.ChallengePasswordType =
+    should_of (codes "RFC 2985") (codes "challenge_password_type") (codes "5.4.1") (codes "certificationRequestInfo.attributes.challengePassword")
+    (λ r v. has_faulty_password passwords.OtherType r.info.attributes)
+request_sentence rules.ExtensionRequestValues =
+    must_of (codes "RFC 2985") (codes "extension_request_several_values") (codes "5.4.2") (codes "certificationRequestInfo.attributes.extensionRequest")
+    (λ r v. has_several_values (pkcs_9 14) r.info.attributes)
+request_sentence rules.ExtensionRequestMalformed =
+    must_of (codes "RFC 2985") (codes "extension_request_malformed") (codes "5.4.2") (codes "certificationRequestInfo.attributes.extensionRequest")
+    (λ r v. v.is_request_malformed)
+request_sentence rules.ExtensionsEmpty =
+    must (codes "extensions_empty") (codes "4.1.2.9") (codes "certificationRequestInfo.attributes.extensionRequest")
+    (λ r v. passes (λ q. is_empty q.0) v.requested)
+request_sentence rules.ExtensionRepeated =
+    must (codes "extension_repeated") (codes "4.2") (codes "certificationRequestInfo.attributes.extensionRequest")
+    (λ r v. v.is_repeated)
+
+-- ---- of each type of extension, that one of it that is asked for is malformed
 
 -- where in a CSR an extension of the type that is asked for stands
 abbrev pub request_extension_place : ExtensionKind → List ℕ
 request_extension_place kind = codes "certificationRequestInfo.attributes.extensionRequest." ++ extension_text kind
 
-abbrev pub request_wording : RequestRule → Wording
-request_wording SubjectRdnEmpty = must (codes "subject_rdn_empty") (codes "4.1.2.6") (codes "certificationRequestInfo.subject")
-request_wording SubjectCountryNameInvalid = must (codes "subject_country_name_invalid") (codes "A.1") (codes "certificationRequestInfo.subject")
-request_wording SubjectTextType = must (codes "subject_text_type") (codes "A.1") (codes "certificationRequestInfo.subject")
-request_wording SubjectTextOldType = should (codes "subject_text_old_type") (codes "4.1.2.6") (codes "certificationRequestInfo.subject")
-request_wording SubjectTextCharacters = must (codes "subject_text_characters") (codes "4.1.2.6") (codes "certificationRequestInfo.subject")
-request_wording SubjectTextSize = must (codes "subject_text_size") (codes "A.1") (codes "certificationRequestInfo.subject")
-request_wording SubjectEmptyWithoutAltName = must (codes "subject_empty_without_alt_name") (codes "4.1.2.6") (codes "certificationRequestInfo.subject")
-request_wording AttributeRepeated = should_of (codes "RFC 2986") (codes "attribute_repeated") (codes "4.1") (codes "certificationRequestInfo.attributes")
-request_wording AttributeValuesEmpty = must_of (codes "RFC 2986") (codes "attribute_values_empty") (codes "4.1") (codes "certificationRequestInfo.attributes")
-request_wording ChallengePasswordValues = must_of (codes "RFC 2985") (codes "challenge_password_several_values") (codes "5.4.1") (codes "certificationRequestInfo.attributes.challengePassword")
-request_wording ChallengePasswordMalformed = must_of (codes "RFC 2985") (codes "challenge_password_malformed") (codes "5.4.1") (codes "certificationRequestInfo.attributes.challengePassword")
-request_wording ChallengePasswordSize = must_of (codes "RFC 2985") (codes "challenge_password_size") (codes "5.4.1") (codes "certificationRequestInfo.attributes.challengePassword")
-request_wording ChallengePasswordType = should_of (codes "RFC 2985") (codes "challenge_password_type") (codes "5.4.1") (codes "certificationRequestInfo.attributes.challengePassword")
-request_wording ExtensionRequestValues = must_of (codes "RFC 2985") (codes "extension_request_several_values") (codes "5.4.2") (codes "certificationRequestInfo.attributes.extensionRequest")
-request_wording ExtensionRequestMalformed = must_of (codes "RFC 2985") (codes "extension_request_malformed") (codes "5.4.2") (codes "certificationRequestInfo.attributes.extensionRequest")
-request_wording ExtensionsEmpty = must (codes "extensions_empty") (codes "4.1.2.9") (codes "certificationRequestInfo.attributes.extensionRequest")
-request_wording ExtensionRepeated = must (codes "extension_repeated") (codes "4.2") (codes "certificationRequestInfo.attributes.extensionRequest")
-request_wording (ExtensionMalformed kind) = must (codes "extension_malformed") (codes "4.2") (request_extension_place kind)
-request_wording SubjectAltNameEmpty = must (codes "subject_alt_name_empty") (codes "4.2.1.6") (codes "certificationRequestInfo.attributes.extensionRequest.subjectAltName")
-request_wording SubjectAltNameEmptyName = must (codes "subject_alt_name_empty_name") (codes "4.2.1.6") (codes "certificationRequestInfo.attributes.extensionRequest.subjectAltName")
-request_wording SubjectAltNameDnsNameInvalid = must (codes "subject_alt_name_dns_name_invalid") (codes "4.2.1.6") (codes "certificationRequestInfo.attributes.extensionRequest.subjectAltName")
-request_wording SubjectAltNameAddressLength = must (codes "subject_alt_name_address_length") (codes "4.2.1.6") (codes "certificationRequestInfo.attributes.extensionRequest.subjectAltName")
-request_wording SubjectAltNameMailboxInvalid = must (codes "subject_alt_name_mailbox_invalid") (codes "4.2.1.6") (codes "certificationRequestInfo.attributes.extensionRequest.subjectAltName")
-request_wording SubjectAltNameUriRelative = must (codes "subject_alt_name_uri_relative") (codes "4.2.1.6") (codes "certificationRequestInfo.attributes.extensionRequest.subjectAltName")
-request_wording SubjectAltNameUriInvalid = must (codes "subject_alt_name_uri_invalid") (codes "4.2.1.6") (codes "certificationRequestInfo.attributes.extensionRequest.subjectAltName")
-request_wording SubjectAltNameUriHostInvalid = must (codes "subject_alt_name_uri_host_invalid") (codes "4.2.1.6") (codes "certificationRequestInfo.attributes.extensionRequest.subjectAltName")
+abbrev pub request_malformed_sentence : ExtensionKind → Sentence CertReq RequestValues
+request_malformed_sentence kind =
+    must (codes "extension_malformed") (codes "4.2") (request_extension_place kind)
+    (λ r v. not (is_read v.read kind))
+
+-- ---- the rules on the SAN that is asked for, in their order
+
+abbrev pub request_name_rules : List RequestNameRule
+request_name_rules =
+    names.SubjectAltNameEmpty
+    ∷ names.SubjectAltNameEmptyName
+    ∷ names.SubjectAltNameDnsNameInvalid
+    ∷ names.SubjectAltNameAddressLength
+    ∷ names.SubjectAltNameMailboxInvalid
+    ∷ names.SubjectAltNameUriRelative
+    ∷ names.SubjectAltNameUriInvalid
+    ∷ names.SubjectAltNameUriHostInvalid ∷ []
+
+abbrev pub request_name_sentence : RequestNameRule → Sentence CertReq RequestValues
+request_name_sentence names.SubjectAltNameEmpty =
+    must (codes "subject_alt_name_empty") (codes "4.2.1.6") (codes "certificationRequestInfo.attributes.extensionRequest.subjectAltName")
+    (λ r v. passes (λ s. is_empty s.0) v.subject_alt_name)
+request_name_sentence names.SubjectAltNameEmptyName =
+    must (codes "subject_alt_name_empty_name") (codes "4.2.1.6") (codes "certificationRequestInfo.attributes.extensionRequest.subjectAltName")
+    (λ r v. passes (λ s. list_any is_empty_name s.0) v.subject_alt_name)
+request_name_sentence names.SubjectAltNameDnsNameInvalid =
+    must (codes "subject_alt_name_dns_name_invalid") (codes "4.2.1.6") (codes "certificationRequestInfo.attributes.extensionRequest.subjectAltName")
+    (λ r v. passes (λ s. list_any is_no_dns_name s.0) v.subject_alt_name)
+request_name_sentence names.SubjectAltNameAddressLength =
+    must (codes "subject_alt_name_address_length") (codes "4.2.1.6") (codes "certificationRequestInfo.attributes.extensionRequest.subjectAltName")
+    (λ r v. passes (λ s. list_any is_no_address s.0) v.subject_alt_name)
+request_name_sentence names.SubjectAltNameMailboxInvalid =
+    must (codes "subject_alt_name_mailbox_invalid") (codes "4.2.1.6") (codes "certificationRequestInfo.attributes.extensionRequest.subjectAltName")
+    (λ r v. passes (λ s. list_any is_no_mailbox s.0) v.subject_alt_name)
+request_name_sentence names.SubjectAltNameUriRelative =
+    must (codes "subject_alt_name_uri_relative") (codes "4.2.1.6") (codes "certificationRequestInfo.attributes.extensionRequest.subjectAltName")
+    (λ r v. passes (λ s. list_any is_relative s.0) v.subject_alt_name)
+request_name_sentence names.SubjectAltNameUriInvalid =
+    must (codes "subject_alt_name_uri_invalid") (codes "4.2.1.6") (codes "certificationRequestInfo.attributes.extensionRequest.subjectAltName")
+    (λ r v. passes (λ s. list_any is_no_uri s.0) v.subject_alt_name)
+request_name_sentence names.SubjectAltNameUriHostInvalid =
+    must (codes "subject_alt_name_uri_host_invalid") (codes "4.2.1.6") (codes "certificationRequestInfo.attributes.extensionRequest.subjectAltName")
+    (λ r v. passes (λ s. list_any is_at_other_host s.0) v.subject_alt_name)

@@ -12,22 +12,14 @@ use Rattle.x509_ext.specs.LookUp.{members, with_oid}
 use Rattle.x509_ext.specs.declared.extension.Extension.{Extension}
 use Rattle.x509_lint.specs.Request.{requested_extensions, requested_of}
 use Rattle.x509_lint.specs.Words.{Certificate, Crl, crl_extensions_of}
-use Rattle.x509_lint.specs.declared.rule.anchor.AnchorRule.{AnchorRule}
-use Rattle.x509_lint.specs.declared.rule.anchor.AnchorRule.TheVariants as anchor
 use Rattle.x509_lint.specs.declared.rule.Rule.{Rule}
 use Rattle.x509_lint.specs.declared.rule.Rule.TheVariants as rules
 use Rattle.x509_lint.specs.declared.rule.crl_field.CrlExtensionKind.{CrlExtensionKind}
 use Rattle.x509_lint.specs.declared.rule.crl_field.CrlExtensionKind.TheVariants as crl_kinds
-use Rattle.x509_lint.specs.declared.rule.crl_field.CrlFieldRule.{CrlFieldRule}
-use Rattle.x509_lint.specs.declared.rule.crl_field.CrlFieldRule.TheVariants as crl_field
 use Rattle.x509_lint.specs.declared.rule.field.FieldRule.{FieldRule}
 use Rattle.x509_lint.specs.declared.rule.field.FieldRule.TheVariants as field
 use Rattle.x509_lint.specs.declared.rule.list.ExtensionKind.{ExtensionKind}
 use Rattle.x509_lint.specs.declared.rule.list.ExtensionKind.TheVariants as kinds
-use Rattle.x509_lint.specs.declared.rule.list.ListRule.{ListRule}
-use Rattle.x509_lint.specs.declared.rule.list.ListRule.TheVariants as list
-use Rattle.x509_lint.specs.declared.rule.request.RequestRule.{RequestRule}
-use Rattle.x509_lint.specs.declared.rule.request.RequestRule.TheVariants as request
 
 -- the octets in hex; of more than 32 those alone, and two dots
 unfoldable pub shortened : List ℕ → List ℕ
@@ -78,43 +70,27 @@ field_seen signed field.SerialNumberNotPositive = shortened signed.serial_number
 field_seen signed field.SerialNumberTooLong = shortened signed.serial_number
 field_seen signed other = []
 
-abbrev pub list_seen : TbsCertificateInner Raw → ListRule → List ℕ
-list_seen signed (list.ExtensionMalformed kind) = value_seen (extension_oid kind) (members signed.extensions)
-list_seen signed other = []
-
 abbrev pub signed_seen : TbsCertificateInner Raw → Rule → List ℕ
 signed_seen signed (rules.Field rule) = field_seen signed rule
-signed_seen signed (rules.ExtensionList rule) = list_seen signed rule
+signed_seen signed (rules.ExtensionMalformed kind) = value_seen (extension_oid kind) (members signed.extensions)
 signed_seen signed other = []
 
 abbrev pub certificate_seen : Certificate → Rule → List ℕ
 certificate_seen c rule = signed_seen c.tbs_certificate rule
 
 -- of a CRL the octets of an extension that can't be read
-abbrev pub crl_field_seen : Crl → CrlFieldRule → List ℕ
-crl_field_seen l (crl_field.ExtensionMalformed kind) = value_seen (crl_extension_oid kind) (crl_extensions_of l)
-crl_field_seen l other = []
-
 abbrev pub crl_seen : Crl → Rule → List ℕ
-crl_seen l (rules.CrlField rule) = crl_field_seen l rule
+crl_seen l (rules.CrlExtensionMalformed kind) = value_seen (crl_extension_oid kind) (crl_extensions_of l)
 crl_seen l other = []
 
 -- of a CSR the octets of an extension that is asked for and can't be read
-abbrev pub request_rule_seen : CertReq → RequestRule → List ℕ
-request_rule_seen r (request.ExtensionMalformed kind) = value_seen (extension_oid kind) (requested_extensions (requested_of r))
-request_rule_seen r other = []
-
 abbrev pub request_seen : CertReq → Rule → List ℕ
-request_seen r (rules.Request rule) = request_rule_seen r rule
+request_seen r (rules.RequestExtensionMalformed kind) = value_seen (extension_oid kind) (requested_extensions (requested_of r))
 request_seen r other = []
 
 -- of the description of a trust anchor the octets of an extension that can't be read
-abbrev pub anchor_rule_seen : TrustAnchorInfo Raw → AnchorRule → List ℕ
-anchor_rule_seen info (anchor.ExtensionMalformed kind) = value_seen (extension_oid kind) (members info.extensions)
-anchor_rule_seen info other = []
-
 abbrev pub info_seen : TrustAnchorInfo Raw → Rule → List ℕ
-info_seen info (rules.Anchor rule) = anchor_rule_seen info rule
+info_seen info (rules.AnchorExtensionMalformed kind) = value_seen (extension_oid kind) (members info.extensions)
 info_seen info other = []
 
 -- of a trust anchor that is a certificate what is seen of that

@@ -1,7 +1,6 @@
 -- What rules look at, beside the object itself: the values of its extensions, and what is asked of it once.
 use Rattle.std.specs.Prelude.{◌≡◌, ◌≢◌, ◌↔◌, IsTrue, ℕ, Bool, not, List, [], Option, Some, None, bytes_eq, map}
 use Rattle.std.specs.List.{All, list_any}
-use Rattle.x509_der.specs.Form.{Form}
 use Rattle.x509_ext.specs.Access.{authority_info_access_syntax, subject_info_access_syntax}
 use Rattle.x509_ext.specs.AlternativeNames.{issuer_alt_name, subject_alt_name}
 use Rattle.x509_ext.specs.AuthorityKeyIdentifier.{authority_key_identifier}
@@ -30,8 +29,9 @@ use Rattle.x509_lint.specs.BasicConstraints.{any_basic_constraints}
 use Rattle.x509_lint.specs.Notices.{has_faulty_notice}
 use Rattle.x509_lint.specs.declared.notices.NoticeFault.TheVariants.{Long, NoText, OldType, Ia5Type, Control, Reference, Unnormalized}
 use Rattle.x509_lint.specs.SkipCerts.{any_policy_constraints}
+use Rattle.x509_lint.specs.PublicKey.{numbers}
 use Rattle.x509_lint.specs.Read.{AreExtensionsRead, IsCrlRead}
-use Rattle.x509_lint.specs.Words.{Certificate, Crl, IsValue, crl_extensions_of, extensions_of, passes}
+use Rattle.x509_lint.specs.Words.{Certificate, Crl, IsSpelled, IsValue, crl_extensions_of, extensions_of, passes}
 use Rattle.x509_lint.specs.declared.facts.CertificateFacts.{CertificateFacts}
 use Rattle.x509_lint.specs.declared.facts.CrlFacts.{CrlFacts}
 use Rattle.x509_lint.specs.declared.values.AlternativeValues.{AlternativeValues}
@@ -41,6 +41,7 @@ use Rattle.x509_lint.specs.declared.values.CrlValues.{CrlValues}
 use Rattle.x509_lint.specs.declared.values.KeyValues.{KeyValues}
 use Rattle.x509_lint.specs.declared.values.PointValues.{PointValues}
 use Rattle.x509_lint.specs.declared.values.PolicyValues.{PolicyValues}
+use Rattle.x509_lint.specs.declared.values.PublicKeyValues.{PublicKeyValues}
 
 -- ---- what may stand twice
 
@@ -104,6 +105,12 @@ ArePointValues extensions v =
     × IsValue authority_info_access_syntax (id_pkix 1 1) extensions v.authority_info_access
     × IsValue subject_info_access_syntax (id_pkix 1 11) extensions v.subject_info_access
 
+-- the numbers of a key, where its octets spell any
+abbrev pub ArePublicKeyValues : Certificate → PublicKeyValues → Type 0
+ArePublicKeyValues c v =
+    IsSpelled numbers c.tbs_certificate.subject_public_key_info.subject_public_key.octets v.key_numbers
+    × IsValue key_usage (id_ce 15) (extensions_of c) v.key_usage
+
 abbrev pub AreCrlValues : List Extension → CrlValues → Type 0
 AreCrlValues extensions v =
     IsValue authority_key_identifier (id_ce 35) extensions v.authority_key_identifier
@@ -144,12 +151,13 @@ pub record CertificateParts : Type 0 where
   pub policy : PolicyValues
   pub constraint : ConstraintValues
   pub point : PointValues
+  pub public_key : PublicKeyValues
 
 abbrev pub AreCertificateParts : Certificate → CertificateParts → Type 0
 AreCertificateParts c parts =
     AreCertificateFacts c parts.facts × AreAuthorityValues (extensions_of c) parts.authority × AreKeyValues (extensions_of c) parts.key
     × AreAlternativeValues (extensions_of c) parts.alternative × ArePolicyValues (extensions_of c) parts.policy
-    × AreConstraintValues (extensions_of c) parts.constraint × ArePointValues (extensions_of c) parts.point
+    × AreConstraintValues (extensions_of c) parts.constraint × ArePointValues (extensions_of c) parts.point × ArePublicKeyValues c parts.public_key
 
 pub record CrlParts : Type 0 where
   pub facts : CrlFacts

@@ -60,6 +60,10 @@ HasPayload form oid extensions value = (e : Extension) × (with_oid oid extensio
 abbrev pub IsValue : {T : Type 0} → Form T → List ℕ → List Extension → Option T → Type 0
 IsValue {T} form oid extensions found = (value : T) → HasPayload form oid extensions value ↔ (found ≡ Some value)
 
+-- the value that the octets spell; None where they spell none
+abbrev pub IsSpelled : {T : Type 0} → Form T → List ℕ → Option T → Type 0
+IsSpelled {T} form octets found = (value : T) → Spells form value octets ↔ (found ≡ Some value)
+
 -- ---- times (RFC 5280 4.1.2.5)
 
 -- a date through 2049, which has to be a UTCTime, as GeneralizedTime

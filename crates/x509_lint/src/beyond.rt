@@ -20,7 +20,7 @@ const X400_ADDRESS: u8 = 0xA3;
 const SEQUENCE: u8 = 0x30;
 
 /// What an extension may have that can't be held. An OID is large that has more than 39 octets, or a number of 2^32 or more.
-#[derive(Clone, Copy, Debug, PartialEq, Eq)]
+#[derive(Clone, Copy)]
 pub(crate) enum Beyond {
     /// None of it.
     Nothing,

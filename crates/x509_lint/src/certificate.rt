@@ -1,6 +1,6 @@
 //! The rules on certificates.
 
-ghost use Rattle.std.specs.Prelude.{◌≡◌, ◌++◌, filter, map, IfErr, IfOk, OnOk};
+ghost use Rattle.std.specs.Prelude.{◌≡◌, ◌++◌, map, IfErr, IfOk, OnOk};
 ghost use Rattle.x509_der.specs.declared.error.ErrorKind.TheVariants.{Memory};
 ghost use Rattle.x509_lint.specs.Alternative as alternative_rules;
 ghost use Rattle.x509_lint.specs.Authority as authority_rules;
@@ -12,8 +12,10 @@ ghost use Rattle.x509_lint.specs.List as list_rules;
 ghost use Rattle.x509_lint.specs.Name as name_rules;
 ghost use Rattle.x509_lint.specs.Point as point_rules;
 ghost use Rattle.x509_lint.specs.Policy as policy_rules;
+ghost use Rattle.x509_lint.specs.PublicKey as public_key_rules;
 ghost use Rattle.x509_lint.specs.Rules.{AreFindings};
-ghost use Rattle.x509_lint.specs.Values.{AreAlternativeValues, AreAuthorityValues, AreCertificateFacts, AreConstraintValues, AreKeyValues, ArePointValues, ArePolicyValues};
+ghost use Rattle.x509_lint.specs.Sentence.{broken};
+ghost use Rattle.x509_lint.specs.Values.{AreAlternativeValues, AreAuthorityValues, AreCertificateFacts, AreConstraintValues, AreKeyValues, ArePointValues, ArePolicyValues, ArePublicKeyValues};
 ghost use Rattle.x509_lint.specs.Words.{extensions_of};
 ghost use Rattle.x509_lint.specs.declared.facts.CertificateFacts.{CertificateFacts};
 ghost use Rattle.x509_lint.specs.declared.rule.Rule.TheVariants as rules;
@@ -23,17 +25,7 @@ ghost use Rattle.x509_lint.specs.declared.values.ConstraintValues.{ConstraintVal
 ghost use Rattle.x509_lint.specs.declared.values.KeyValues.{KeyValues};
 ghost use Rattle.x509_lint.specs.declared.values.PointValues.{PointValues};
 ghost use Rattle.x509_lint.specs.declared.values.PolicyValues.{PolicyValues};
-
-mod alternative;
-mod authority;
-mod constraint;
-mod critical;
-mod field;
-mod key;
-mod list;
-mod name;
-mod point;
-mod policy;
+ghost use Rattle.x509_lint.specs.declared.values.PublicKeyValues.{PublicKeyValues};
 
 use crate::extensions::extensions_of;
 use crate::facts::certificate_facts;
@@ -45,15 +37,15 @@ use crate::rule::constraint::CONSTRAINT_RULES;
 use crate::rule::critical::CRITICAL_RULES;
 use crate::rule::field::FIELD_RULES;
 use crate::rule::key::KEY_RULES;
-use crate::rule::list::LIST_RULES;
+use crate::rule::list::{LIST_RULES, MALFORMED};
 use crate::rule::name::NAME_RULES;
 use crate::rule::point::POINT_RULES;
 use crate::rule::policy::POLICY_RULES;
+use crate::rule::public_key::PUBLIC_KEY_RULES;
 use crate::values::{
     alternative_values, authority_values, constraint_values, key_values, point_values,
-    policy_values,
+    policy_values, public_key_values,
 };
-pub(crate) use constraint::breaks_name_constraints;
 use std::alloc::Global;
 use x509_base::Raw;
 use x509_cert::certificate::CertificateInner;
@@ -67,16 +59,18 @@ fn add_first(
 ) -> Result<(), Error>
     ensures ok { OnOk result ((facts : CertificateFacts) × AreCertificateFacts certificate.now facts
         × (findings.new.items ≡ findings.old.items ++ map rules.Field
-        (filter (field_rules.breaks_field certificate.now facts) field_rules.field_rules) ++ map rules.Name
-        (filter (name_rules.breaks_name certificate.now facts) name_rules.name_rules) ++ map rules.ExtensionList
-        (filter (list_rules.breaks_list certificate.now facts) list_rules.list_rules) ++ map rules.Critical
-        (filter (critical_rules.breaks_critical certificate.now facts) critical_rules.critical_rules))) }
+        (broken field_rules.field_sentence certificate.now facts field_rules.field_rules) ++ map rules.Name
+        (broken name_rules.name_sentence certificate.now facts name_rules.name_rules) ++ map rules.ExtensionList
+        (broken list_rules.list_sentence certificate.now facts list_rules.list_rules) ++ map rules.ExtensionMalformed
+        (broken list_rules.malformed_sentence certificate.now facts list_rules.extension_kinds) ++ map rules.Critical
+        (broken critical_rules.critical_sentence certificate.now facts critical_rules.critical_rules))) }
     ensures err { IfErr result (λ e. e.kind ≡ Memory) }
 {
     let facts = certificate_facts(alloc, certificate)?;
     add_broken(certificate, &facts, &FIELD_RULES, findings)?;
     add_broken(certificate, &facts, &NAME_RULES, findings)?;
     add_broken(certificate, &facts, &LIST_RULES, findings)?;
+    add_broken(certificate, &facts, &MALFORMED, findings)?;
     add_broken(certificate, &facts, &CRITICAL_RULES, findings)?;
     Ok(())
 }
@@ -88,7 +82,7 @@ fn add_authority(
 ) -> Result<(), Error>
     ensures ok { OnOk result ((values : AuthorityValues) × AreAuthorityValues (extensions_of certificate.now) values
         × (findings.new.items ≡ findings.old.items ++ map rules.Authority
-        (filter (authority_rules.breaks_authority certificate.now values) authority_rules.authority_rules))) }
+        (broken authority_rules.authority_sentence certificate.now values authority_rules.authority_rules))) }
     ensures err { IfErr result (λ e. e.kind ≡ Memory) }
 {
     let values = authority_values(alloc, extensions_of(certificate))?;
@@ -102,7 +96,7 @@ fn add_key(
     findings: &mut Vec<Rule>,
 ) -> Result<(), Error>
     ensures ok { OnOk result ((values : KeyValues) × AreKeyValues (extensions_of certificate.now) values
-        × (findings.new.items ≡ findings.old.items ++ map rules.Key (filter (key_rules.breaks_key certificate.now values) key_rules.key_rules))) }
+        × (findings.new.items ≡ findings.old.items ++ map rules.Key (broken key_rules.key_sentence certificate.now values key_rules.key_rules))) }
     ensures err { IfErr result (λ e. e.kind ≡ Memory) }
 {
     let values = key_values(alloc, extensions_of(certificate))?;
@@ -117,7 +111,7 @@ fn add_alternative(
 ) -> Result<(), Error>
     ensures ok { OnOk result ((values : AlternativeValues) × AreAlternativeValues (extensions_of certificate.now) values
         × (findings.new.items ≡ findings.old.items ++ map rules.Alternative
-        (filter (alternative_rules.breaks_alternative certificate.now values) alternative_rules.alternative_rules))) }
+        (broken alternative_rules.alternative_sentence certificate.now values alternative_rules.alternative_rules))) }
     ensures err { IfErr result (λ e. e.kind ≡ Memory) }
 {
     let values = alternative_values(alloc, extensions_of(certificate))?;
@@ -132,7 +126,7 @@ fn add_policy(
 ) -> Result<(), Error>
     ensures ok { OnOk result ((values : PolicyValues) × ArePolicyValues (extensions_of certificate.now) values
         × (findings.new.items ≡ findings.old.items ++ map rules.Policy
-        (filter (policy_rules.breaks_policy certificate.now values) policy_rules.policy_rules))) }
+        (broken policy_rules.policy_sentence certificate.now values policy_rules.policy_rules))) }
     ensures err { IfErr result (λ e. e.kind ≡ Memory) }
 {
     let values = policy_values(alloc, extensions_of(certificate))?;
@@ -147,7 +141,7 @@ fn add_constraint(
 ) -> Result<(), Error>
     ensures ok { OnOk result ((values : ConstraintValues) × AreConstraintValues (extensions_of certificate.now) values
         × (findings.new.items ≡ findings.old.items ++ map rules.Constraint
-        (filter (constraint_rules.breaks_constraint certificate.now values) constraint_rules.constraint_rules))) }
+        (broken constraint_rules.constraint_sentence certificate.now values constraint_rules.constraint_rules))) }
     ensures err { IfErr result (λ e. e.kind ≡ Memory) }
 {
     let values = constraint_values(alloc, extensions_of(certificate))?;
@@ -161,7 +155,7 @@ fn add_point(
     findings: &mut Vec<Rule>,
 ) -> Result<(), Error>
     ensures ok { OnOk result ((values : PointValues) × ArePointValues (extensions_of certificate.now) values
-        × (findings.new.items ≡ findings.old.items ++ map rules.Point (filter (point_rules.breaks_point certificate.now values) point_rules.point_rules))) }
+        × (findings.new.items ≡ findings.old.items ++ map rules.Point (broken point_rules.point_sentence certificate.now values point_rules.point_rules))) }
     ensures err { IfErr result (λ e. e.kind ≡ Memory) }
 {
     let values = point_values(alloc, extensions_of(certificate))?;
@@ -169,10 +163,25 @@ fn add_point(
     Ok(())
 }
 
-/// The rules of RFC 5280 4.1 and 4.2 that the certificate breaks, in the order of `certificate_rules` in
-/// `specs/Rules.antt`: those on its fields, on its names, on the list of its extensions and on which of these are
-/// critical, then those on what extensions say; in each of these by section. The profile [`Raw`] lets in serial numbers
-/// of any length.
+fn add_public_key(
+    alloc: Global,
+    certificate: &CertificateInner<Raw>,
+    findings: &mut Vec<Rule>,
+) -> Result<(), Error>
+    ensures ok { OnOk result ((values : PublicKeyValues) × ArePublicKeyValues certificate.now values
+        × (findings.new.items ≡ findings.old.items ++ map rules.PublicKey
+        (broken public_key_rules.public_key_sentence certificate.now values public_key_rules.public_key_rules))) }
+    ensures err { IfErr result (λ e. e.kind ≡ Memory) }
+{
+    let values = public_key_values(alloc, certificate)?;
+    add_broken(certificate, &values, &PUBLIC_KEY_RULES, findings)?;
+    Ok(())
+}
+
+/// The rules of RFC 5280 4.1 and 4.2, and of the standards on keys and signatures, that the certificate breaks, in the
+/// order of `certificate_rules` in `specs/Rules.antt`: those on its fields, on its names, on the list of its extensions
+/// and on which of these are critical, then those on what extensions say, in each of these by section; last those on
+/// its signature's algorithm and on its public key. The profile [`Raw`] lets in serial numbers of any length.
 ///
 /// # Errors
 ///
@@ -192,5 +201,6 @@ pub fn lint_certificate(
     add_policy(alloc, certificate, &mut findings)?;
     add_constraint(alloc, certificate, &mut findings)?;
     add_point(alloc, certificate, &mut findings)?;
+    add_public_key(alloc, certificate, &mut findings)?;
     Ok(findings)
 }

@@ -4,16 +4,12 @@ ghost use Rattle.std.specs.Prelude.{◌≡◌, IfErr, IfOk};
 ghost use Rattle.x509_der.specs.declared.error.ErrorKind.TheVariants.{Memory};
 ghost use Rattle.x509_lint.specs.Rules.{AreCrlFindings};
 
-mod entry;
-mod extension;
-mod field;
-
 use crate::facts::crl_facts;
 use crate::group::add_broken;
 use crate::rule::Rule;
 use crate::rule::crl_entry::CRL_ENTRY_RULES;
 use crate::rule::crl_extension::CRL_EXTENSION_RULES;
-use crate::rule::crl_field::CRL_FIELD_RULES;
+use crate::rule::crl_field::{CRL_ENTRY_LIST_RULES, CRL_FIELD_RULES, CRL_MALFORMED};
 use crate::values::crl_values;
 use std::alloc::Global;
 use x509_base::Raw;
@@ -34,6 +30,8 @@ pub fn lint_crl(alloc: Global, crl: &CertificateList<Raw>) -> Result<Vec<Rule>, 
     let mut findings = Vec::new(alloc);
     let facts = crl_facts(alloc, crl)?;
     add_broken(crl, &facts, &CRL_FIELD_RULES, &mut findings)?;
+    add_broken(crl, &facts, &CRL_MALFORMED, &mut findings)?;
+    add_broken(crl, &facts, &CRL_ENTRY_LIST_RULES, &mut findings)?;
     let values = crl_values(alloc, members(crl.tbs_cert_list.crl_extensions.as_ref()))?;
     add_broken(crl, &values, &CRL_EXTENSION_RULES, &mut findings)?;
     add_broken(crl, &values, &CRL_ENTRY_RULES, &mut findings)?;

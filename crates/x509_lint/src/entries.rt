@@ -19,7 +19,7 @@ use x509_ext::pkix::{CertificateIssuer, CrlReason};
 use x509_ext::{Extension, has_repeated_extension, members};
 
 /// What may be wrong with an extension of an entry (RFC 5280 5.3).
-#[derive(Clone, Copy, Debug, PartialEq, Eq)]
+#[derive(Clone, Copy)]
 pub(crate) enum EntryFault {
     /// It is a reasonCode, and critical.
     ReasonCritical,
@@ -47,7 +47,7 @@ pub(crate) enum EntryFault {
 }
 
 /// The invalidity date of an entry, 2.5.29.24 (RFC 5280 5.3.2).
-#[derive(Clone, Copy, Debug)]
+#[derive(Clone, Copy)]
 struct InvalidityDate;
 
 impl AssociatedOid for InvalidityDate {

@@ -1,7 +1,7 @@
 //! How a rule is told.
 
 ghost use Rattle.std.specs.Prelude.{Some};
-ghost use Rattle.x509_lint.specs.Wording.{Says, must, must_of, not_judged, severity_text, should, should_of};
+ghost use Rattle.x509_lint.specs.Wording.{severity_text};
 
 use std::fmt;
 
@@ -38,78 +38,44 @@ pub struct Entry {
     pub place: &'static str,
 }
 
-/// How the rules of a group are told, a line for each: its variant, how bad it is to break it, its name, its section and its place.
-#[macro_export]
-macro_rules! told {
-    ($rule:ident: $group:ident; $($variant:ident $(($kind:ident))? => $how:ident($($word:expr),+),)+) => {
-        match $rule {
-            $($group::$variant $(($kind))? => $how($($word),+),)+
+/// The table of a group: its rules in their order, a line for each: its variant, how bad it is to break it, its name, its section and its place.
+macro_rules! rules {
+    ($group:ident; $($variant:ident => $how:ident($($word:expr),+),)+) => {
+        [$($crate::group::Told { rule: $group::$variant, entry: $crate::entry::entry!($how($($word),+)) },)+]
+    };
+}
+
+/// How a rule is told: one that has to be kept, one that ought to be, or what RFC 5280 allows and this library doesn't read; the standard is given in front of the
+/// name where it is another than RFC 5280.
+macro_rules! entry {
+    (must($name:expr, $section:expr, $place:expr)) => {
+        $crate::entry::entry!(Error, "RFC 5280", $name, $section, $place)
+    };
+    (should($name:expr, $section:expr, $place:expr)) => {
+        $crate::entry::entry!(Warning, "RFC 5280", $name, $section, $place)
+    };
+    (not_judged($name:expr, $section:expr, $place:expr)) => {
+        $crate::entry::entry!(NotJudged, "RFC 5280", $name, $section, $place)
+    };
+    (must_of($standard:expr, $name:expr, $section:expr, $place:expr)) => {
+        $crate::entry::entry!(Error, $standard, $name, $section, $place)
+    };
+    (should_of($standard:expr, $name:expr, $section:expr, $place:expr)) => {
+        $crate::entry::entry!(Warning, $standard, $name, $section, $place)
+    };
+    ($severity:ident, $standard:expr, $name:expr, $section:expr, $place:expr) => {
+        $crate::entry::Entry {
+            severity: $crate::entry::Severity::$severity,
+            name: $name,
+            standard: $standard,
+            section: $section,
+            place: $place,
         }
     };
 }
 
-/// The entry of a rule of RFC 5280 that has to be kept.
-pub(crate) fn must(name: &'static str, section: &'static str, place: &'static str) -> Entry
-    ensures { Says result (must name.now section.now place.now) }
-{
-    must_of("RFC 5280", name, section, place)
-}
-
-/// The entry of a rule of RFC 5280 that ought to be kept.
-pub(crate) fn should(name: &'static str, section: &'static str, place: &'static str) -> Entry
-    ensures { Says result (should name.now section.now place.now) }
-{
-    should_of("RFC 5280", name, section, place)
-}
-
-/// The entry of what RFC 5280 allows and this library doesn't read.
-pub(crate) fn not_judged(name: &'static str, section: &'static str, place: &'static str) -> Entry
-    ensures { Says result (not_judged name.now section.now place.now) }
-{
-    Entry {
-        severity: Severity::NotJudged,
-        name,
-        standard: "RFC 5280",
-        section,
-        place,
-    }
-}
-
-/// The entry of a rule of a standard that has to be kept.
-pub(crate) fn must_of(
-    standard: &'static str,
-    name: &'static str,
-    section: &'static str,
-    place: &'static str,
-) -> Entry
-    ensures { Says result (must_of standard.now name.now section.now place.now) }
-{
-    Entry {
-        severity: Severity::Error,
-        name,
-        standard,
-        section,
-        place,
-    }
-}
-
-/// The entry of a rule of a standard that ought to be kept.
-pub(crate) fn should_of(
-    standard: &'static str,
-    name: &'static str,
-    section: &'static str,
-    place: &'static str,
-) -> Entry
-    ensures { Says result (should_of standard.now name.now section.now place.now) }
-{
-    Entry {
-        severity: Severity::Warning,
-        name,
-        standard,
-        section,
-        place,
-    }
-}
+pub(crate) use entry;
+pub(crate) use rules;
 
 impl fmt::Display for Severity {
     ghost output = { λ severity. Some (severity_text severity) };

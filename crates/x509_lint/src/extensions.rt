@@ -3,7 +3,7 @@
 ghost use Rattle.std.specs.Option.{option_copied};
 ghost use Rattle.std.specs.Prelude.{◌≡◌, ◌&&◌, not, IfOk, IfErr};
 ghost use Rattle.x509_der.specs.declared.error.ErrorKind.TheVariants.{Memory};
-ghost use Rattle.x509_lint.specs.Words.{IsValue, extensions_of, has, has_critical, has_uncritical, is_empty, is_of, passes};
+ghost use Rattle.x509_lint.specs.Words.{IsSpelled, IsValue, extensions_of, has, has_critical, has_uncritical, is_empty, is_of, passes};
 
 use crate::passes;
 use std::alloc::Global;
@@ -103,6 +103,20 @@ pub fn payload<T: AssociatedOid + Decode + Drop>(
     match get_extension::<T>(alloc, extensions) {
         Ok(Some((_, value))) => Ok(Some(value)),
         Ok(None) => Ok(None),
+        Err(e) => match e.kind() {
+            ErrorKind::Memory => Err(e),
+            _ => Ok(None),
+        },
+    }
+}
+
+/// The value whose encoding the octets are; `None` where they are that of none.
+pub(crate) fn spelled<T: Decode + Drop>(alloc: Global, octets: &[u8]) -> Result<Option<T>, Error>
+    ensures ok { IfOk result (IsSpelled T.form octets.now) }
+    ensures err { IfErr result (λ e. e.kind ≡ Memory) }
+{
+    match T::from_der(alloc, octets) {
+        Ok(value) => Ok(Some(value)),
         Err(e) => match e.kind() {
             ErrorKind::Memory => Err(e),
             _ => Ok(None),

@@ -17,7 +17,7 @@ use x509_der::Error;
 use x509_ext::{has_repeated_extension, members};
 
 /// What is asked of a certificate once.
-#[derive(Clone, Copy, Debug, PartialEq, Eq)]
+#[derive(Clone, Copy)]
 pub(crate) struct CertificateFacts {
     /// The algorithm in the signed part isn't the one outside it.
     pub(crate) algorithms_differ: bool,
@@ -30,7 +30,7 @@ pub(crate) struct CertificateFacts {
 }
 
 /// What is asked of a CRL once.
-#[derive(Clone, Copy, Debug, PartialEq, Eq)]
+#[derive(Clone, Copy)]
 pub(crate) struct CrlFacts {
     /// The algorithm in the signed part isn't the one outside it.
     pub(crate) algorithms_differ: bool,

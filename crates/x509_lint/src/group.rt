@@ -1,42 +1,51 @@
 //! Groups of rules.
 
-ghost use Rattle.std.specs.Prelude.{◌≡◌, ◌++◌, map, filter, OnOk};
+ghost use Rattle.std.specs.Prelude.{◌≡◌, ◌++◌, map, OnOk};
+ghost use Rattle.x509_lint.specs.Sentence.{broken, rules_of};
 
+use crate::entry::Entry;
 use crate::rule::Rule;
 use std::alloc::AllocError;
 
+/// A rule of a group, and how it is told: a line of the group's table.
+pub(crate) struct Told<R> {
+    pub(crate) rule: R,
+    pub(crate) entry: Entry,
+}
+
 /// Rules that look at the same object, and at the same values of its extensions.
 pub(crate) trait Group<O, V> {
-    ghost use Rattle.std.specs.Prelude.{Bool, ◌≡◌};
+    ghost use Rattle.std.specs.Prelude.{◌≡◌};
+    ghost use Rattle.x509_lint.specs.Sentence.{Sentence};
     ghost use Rattle.x509_lint.specs.declared.rule.Rule.{Rule};
 
-    /// Whether the object, with these values of its extensions, breaks the rule.
-    ghost breaks: { O → V → Self → Bool };
+    /// How the rule is told, and whether the object, with these values of its extensions, breaks it.
+    ghost sentence: { Self → Sentence O V };
 
     /// The rule, as one of all rules.
     ghost as_rule: { Self → Rule };
 
     /// Whether the rule is broken.
     fn is_broken(&self, object: &O, values: &V) -> bool
-        ensures { result ≡ breaks object.now values.now self.now };
+        ensures { result ≡ (sentence self.now).breaks object.now values.now };
 
     /// The rule, as one of all rules.
     fn to_rule(&self) -> Rule
         ensures { result ≡ as_rule self.now };
 }
 
-/// Adds those of the rules that are broken to the findings, in their order.
+/// Adds those of the rules of the table that are broken to the findings, in their order.
 pub(crate) fn add_broken<O, V, G: Group<O, V>>(
     object: &O,
     values: &V,
-    rules: &[G],
+    table: &[Told<G>],
     findings: &mut Vec<Rule>,
 ) -> Result<(), AllocError>
-    ensures { OnOk result (findings.new.items ≡ findings.old.items ++ map G.as_rule (filter (λ rule. G.breaks object.now values.now rule) rules.now)) }
+    ensures { OnOk result (findings.new.items ≡ findings.old.items ++ map G.as_rule (broken G.sentence object.now values.now (rules_of table.now))) }
 {
-    for rule in rules {
-        if rule.is_broken(object, values) {
-            findings.push(rule.to_rule())?;
+    for told in table {
+        if told.rule.is_broken(object, values) {
+            findings.push(told.rule.to_rule())?;
         }
     }
     Ok(())

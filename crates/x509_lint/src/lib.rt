@@ -1,8 +1,10 @@
-//! The rules on certificates, CRLs (RFC 5280), CSRs (RFC 2986, 2985) and trust anchors (RFC 5914) that no grammar has: which of them an object breaks.
+//! The rules on certificates (RFC 5280; their keys and signatures: RFC 3279, 4055, 5480, 5758, 8017, 8410, 8813, 9295), CRLs (RFC 5280), CSRs (RFC 2986, 2985) and
+//! trust anchors (RFC 5914) that no grammar has: which of them an object breaks.
 //!
 //! Words of our own are explained in `docs/MAP.md`.
 #![tactic(auto)]
 
+mod algorithms;
 mod anchor;
 mod asserted;
 mod basic_constraints;

@@ -50,9 +50,7 @@ fn is_no_country(attribute: &AttributeTypeAndValue) -> bool
 fn has_no_country_in(rdn: &RelativeDistinguishedName) -> bool
     ensures { result ≡ list_any is_no_country rdn.now }
 {
-    rdn.as_slice()
-        .iter()
-        .any(|attribute| is_no_country(attribute))
+    rdn.as_slice().iter().any(is_no_country)
 }
 
 /// Whether a countryName of the name isn't a PrintableString of two letters.
@@ -60,7 +58,7 @@ pub(crate) fn has_no_country(name: &Name) -> bool
     ensures { result ≡ has_no_country name.now }
 {
     let rdns: &RdnSequence = name.as_ref();
-    rdns.as_slice().iter().any(|rdn| has_no_country_in(rdn))
+    rdns.as_slice().iter().any(has_no_country_in)
 }
 
 fn is_empty_rdn(rdn: &RelativeDistinguishedName) -> bool
@@ -74,7 +72,7 @@ pub(crate) fn has_empty_rdn(name: &Name) -> bool
     ensures { result ≡ has_empty_rdn name.now }
 {
     let rdns: &RdnSequence = name.as_ref();
-    rdns.as_slice().iter().any(|rdn| is_empty_rdn(rdn))
+    rdns.as_slice().iter().any(is_empty_rdn)
 }
 
 /// Whether the name has no RDN.
@@ -127,7 +125,7 @@ fn is_no_address(name: &GeneralName) -> bool
 }
 
 /// What may be wrong with the base of a subtree (RFC 5280 4.2.1.10).
-#[derive(Clone, Copy, Debug, PartialEq, Eq)]
+#[derive(Clone, Copy)]
 pub(crate) enum BaseFault {
     /// It is of a form that isn't to be constrained.
     OtherForm,
@@ -404,41 +402,41 @@ fn is_at_other_host(name: &GeneralName) -> bool
 pub(crate) fn has_empty_name(names: &[GeneralName]) -> bool
     ensures { result ≡ list_any is_empty_name names.now }
 {
-    names.iter().any(|name| is_empty_general_name(name))
+    names.iter().any(is_empty_general_name)
 }
 
 pub(crate) fn has_no_dns_name(names: &[GeneralName]) -> bool
     ensures { result ≡ list_any is_no_dns_name names.now }
 {
-    names.iter().any(|name| is_no_dns_name(name))
+    names.iter().any(is_no_dns_name)
 }
 
 pub(crate) fn has_no_address(names: &[GeneralName]) -> bool
     ensures { result ≡ list_any is_no_address names.now }
 {
-    names.iter().any(|name| is_no_address(name))
+    names.iter().any(is_no_address)
 }
 
 pub(crate) fn has_no_mailbox(names: &[GeneralName]) -> bool
     ensures { result ≡ list_any is_no_mailbox names.now }
 {
-    names.iter().any(|name| is_no_mailbox(name))
+    names.iter().any(is_no_mailbox)
 }
 
 pub(crate) fn has_relative_uri(names: &[GeneralName]) -> bool
     ensures { result ≡ list_any is_relative names.now }
 {
-    names.iter().any(|name| is_relative(name))
+    names.iter().any(is_relative)
 }
 
 pub(crate) fn has_no_uri(names: &[GeneralName]) -> bool
     ensures { result ≡ list_any is_no_uri names.now }
 {
-    names.iter().any(|name| is_no_uri(name))
+    names.iter().any(is_no_uri)
 }
 
 pub(crate) fn has_uri_at_other_host(names: &[GeneralName]) -> bool
     ensures { result ≡ list_any is_at_other_host names.now }
 {
-    names.iter().any(|name| is_at_other_host(name))
+    names.iter().any(is_at_other_host)
 }

@@ -41,7 +41,7 @@ fn char_count(text: &DisplayText) -> usize
 }
 
 /// What may be wrong with a user notice (RFC 5280 4.2.1.4).
-#[derive(Clone, Copy, Debug, PartialEq, Eq)]
+#[derive(Clone, Copy)]
 pub(crate) enum NoticeFault {
     /// Its explicit text is too long.
     Long,

@@ -24,7 +24,7 @@ pub(crate) const CA_REPOSITORY: ObjectIdentifier = oid!(0x2B, 0x06, 0x01, 0x05, 
 const ALL_REASONS: u16 = 510;
 
 /// What may be wrong with a distribution point (RFC 5280 4.2.1.13, 5.2.6).
-#[derive(Clone, Copy, Debug, PartialEq, Eq)]
+#[derive(Clone, Copy)]
 pub(crate) enum PointFault {
     /// Its name is relative to the issuer of the CRL.
     Relative,
@@ -94,7 +94,7 @@ fn is_web(name: &GeneralName) -> bool
 fn has_web(names: &[GeneralName]) -> bool
     ensures { result ≡ list_any place.is_web names.now }
 {
-    names.iter().any(|name| is_web(name))
+    names.iter().any(is_web)
 }
 
 /// Whether the name is an LDAP URI without a dn, or without one attribute description.
@@ -139,13 +139,13 @@ fn is_without_host(name: &GeneralName) -> bool
 fn have_incomplete_entry(names: &[GeneralName]) -> bool
     ensures { result ≡ list_any place.is_incomplete_entry names.now }
 {
-    names.iter().any(|name| is_incomplete_entry(name))
+    names.iter().any(is_incomplete_entry)
 }
 
 fn are_without_host(names: &[GeneralName]) -> bool
     ensures { result ≡ list_any place.is_without_host names.now }
 {
-    names.iter().any(|name| is_without_host(name))
+    names.iter().any(is_without_host)
 }
 
 fn has_incomplete_entry(name: &Option<DistributionPointName>) -> bool
@@ -200,7 +200,7 @@ fn is_no_directory_name(name: &GeneralName) -> bool
 fn are_not_directory_names(names: &[GeneralName]) -> bool
     ensures { result ≡ list_any place.is_no_directory_name names.now }
 {
-    names.iter().any(|name| is_no_directory_name(name))
+    names.iter().any(is_no_directory_name)
 }
 
 fn is_faulty(fault: PointFault, point: &DistributionPoint) -> bool
@@ -245,7 +245,7 @@ pub(crate) fn are_partial(points: &[DistributionPoint]) -> bool
 fn are_all_partial(points: &[DistributionPoint]) -> bool
     ensures { result ≡ list_all place.is_partial_point points.now }
 {
-    points.iter().all(|point| is_partial(point))
+    points.iter().all(is_partial)
 }
 
 fn is_this_name(name: &Name, other: &GeneralName) -> bool

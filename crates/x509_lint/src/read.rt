@@ -22,7 +22,7 @@ use x509_ext::pkix::{
 };
 
 /// Which of the types of keys, of their use, and of basic constraints are read.
-#[derive(Clone, Copy, Debug, PartialEq, Eq)]
+#[derive(Clone, Copy)]
 pub(crate) struct KeysRead {
     pub(crate) authority_key_identifier: bool,
     pub(crate) subject_key_identifier: bool,
@@ -33,7 +33,7 @@ pub(crate) struct KeysRead {
 }
 
 /// Which of the types of names, attributes and access are read.
-#[derive(Clone, Copy, Debug, PartialEq, Eq)]
+#[derive(Clone, Copy)]
 pub(crate) struct NamesRead {
     pub(crate) subject_alt_name: bool,
     pub(crate) issuer_alt_name: bool,
@@ -44,7 +44,7 @@ pub(crate) struct NamesRead {
 }
 
 /// Which of the types of policies and distribution points are read.
-#[derive(Clone, Copy, Debug, PartialEq, Eq)]
+#[derive(Clone, Copy)]
 pub(crate) struct PoliciesRead {
     pub(crate) certificate_policies: bool,
     pub(crate) policy_mappings: bool,
@@ -55,7 +55,7 @@ pub(crate) struct PoliciesRead {
 }
 
 /// Which of the types that certificates have are read.
-#[derive(Clone, Copy, Debug, PartialEq, Eq)]
+#[derive(Clone, Copy)]
 pub(crate) struct ExtensionsRead {
     pub(crate) keys: KeysRead,
     pub(crate) names: NamesRead,
@@ -63,7 +63,7 @@ pub(crate) struct ExtensionsRead {
 }
 
 /// Which of the types that CRLs have are read.
-#[derive(Clone, Copy, Debug, PartialEq, Eq)]
+#[derive(Clone, Copy)]
 pub(crate) struct CrlRead {
     pub(crate) authority_key_identifier: bool,
     pub(crate) issuer_alt_name: bool,

@@ -280,7 +280,7 @@ fn lines<T: Linted>(
 fn has_error(findings: &[Rule]) -> bool
     ensures { result ≡ list_any grammar.is_error findings.now }
 {
-    findings.iter().any(|rule| is_error(rule))
+    findings.iter().any(is_error)
 }
 
 /// What is said of an object.

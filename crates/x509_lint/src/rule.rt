@@ -5,6 +5,8 @@ ghost use Rattle.x509_lint.specs.Rules.{rule_wording};
 ghost use Rattle.x509_lint.specs.Wording.{Says, wording_text};
 
 use crate::entry::{Entry, Severity};
+use crate::rule::anchor::{anchor_malformed, in_controls};
+use crate::rule::request::request_malformed;
 use std::fmt;
 
 pub(crate) mod alternative;
@@ -21,23 +23,25 @@ pub(crate) mod list;
 pub(crate) mod name;
 pub(crate) mod point;
 pub(crate) mod policy;
+pub(crate) mod public_key;
 pub(crate) mod request;
 
 pub use alternative::AlternativeRule;
-pub use anchor::AnchorRule;
+pub use anchor::{AnchorExtensionRule, AnchorRule};
 pub use authority::AuthorityRule;
 pub use constraint::ConstraintRule;
 pub use critical::CriticalRule;
 pub use crl_entry::CrlEntryRule;
 pub use crl_extension::CrlExtensionRule;
-pub use crl_field::{CrlExtensionKind, CrlFieldRule};
+pub use crl_field::{CrlEntryListRule, CrlExtensionKind, CrlFieldRule};
 pub use field::FieldRule;
 pub use key::KeyRule;
 pub use list::{ExtensionKind, ListRule};
 pub use name::NameRule;
 pub use point::PointRule;
 pub use policy::PolicyRule;
-pub use request::RequestRule;
+pub use public_key::PublicKeyRule;
+pub use request::{RequestNameRule, RequestRule};
 
 /// A rule on certificates, CRLs, CSRs or trust anchors. It is printed as `error serial_number_not_positive (RFC 5280 4.1.2.2)`.
 #[derive(Clone, Copy, Debug, PartialEq, Eq)]
@@ -50,6 +54,11 @@ pub enum Rule {
 
     /// On the extensions of a certificate as a list.
     ExtensionList(ListRule),
+
+    /// The octets of an extension of the type aren't an encoding of the type that RFC 5280 has for its OID (RFC 5280 4.2, error). That isn't told of
+    /// octets that have what RFC 5280 allows and this library's decoder doesn't hold: an x400Address, and an OID of more than 39 octets or with a
+    /// number of 2^32 or more.
+    ExtensionMalformed(ExtensionKind),
 
     /// On which extensions of a certificate are critical.
     Critical(CriticalRule),
@@ -72,8 +81,18 @@ pub enum Rule {
     /// On lists of attributes, of CRL distribution points and of access descriptions of a certificate.
     Point(PointRule),
 
+    /// On the public key of a certificate, and on the algorithm of its signature.
+    PublicKey(PublicKeyRule),
+
     /// On the fields of a CRL.
     CrlField(CrlFieldRule),
+
+    /// The octets of an extension of a CRL aren't an encoding of the type that RFC 5280 has for its OID, nor have what this library's decoder
+    /// doesn't hold (RFC 5280 5.2, error).
+    CrlExtensionMalformed(CrlExtensionKind),
+
+    /// On the lists of extensions of a CRL's entries.
+    CrlEntryList(CrlEntryListRule),
 
     /// On the extensions of a CRL.
     CrlExtension(CrlExtensionRule),
@@ -81,11 +100,28 @@ pub enum Rule {
     /// On the extensions of a CRL's entries.
     CrlEntry(CrlEntryRule),
 
-    /// On CSRs.
+    /// On the subject and the attributes of a CSR.
     Request(RequestRule),
 
-    /// On the descriptions of trust anchors.
+    /// The octets of an extension of the type that a CSR asks for aren't an encoding of the type that RFC 5280 has for its OID, nor have
+    /// what this library's decoder doesn't hold (RFC 5280 4.2, error).
+    RequestExtensionMalformed(ExtensionKind),
+
+    /// On the SAN that a CSR asks for.
+    RequestName(RequestNameRule),
+
+    /// On the title and the controls of a trust anchor's description.
     Anchor(AnchorRule),
+
+    /// On the name constraints in the controls of a trust anchor's description: those of a certificate.
+    AnchorConstraint(ConstraintRule),
+
+    /// On the extensions of a trust anchor's description as a list.
+    AnchorExtension(AnchorExtensionRule),
+
+    /// The octets of an extension of a trust anchor's description aren't an encoding of the type that RFC 5280 has for its OID, nor have
+    /// what this library's decoder doesn't hold (RFC 5280 4.2, error).
+    AnchorExtensionMalformed(ExtensionKind),
 }
 
 impl Rule {
@@ -97,6 +133,7 @@ impl Rule {
             Rule::Field(rule) => rule.entry(),
             Rule::Name(rule) => rule.entry(),
             Rule::ExtensionList(rule) => rule.entry(),
+            Rule::ExtensionMalformed(kind) => kind.malformed(),
             Rule::Critical(rule) => rule.entry(),
             Rule::Authority(rule) => rule.entry(),
             Rule::Key(rule) => rule.entry(),
@@ -104,11 +141,19 @@ impl Rule {
             Rule::Policy(rule) => rule.entry(),
             Rule::Constraint(rule) => rule.entry(),
             Rule::Point(rule) => rule.entry(),
+            Rule::PublicKey(rule) => rule.entry(),
             Rule::CrlField(rule) => rule.entry(),
+            Rule::CrlExtensionMalformed(kind) => kind.malformed(),
+            Rule::CrlEntryList(rule) => rule.entry(),
             Rule::CrlExtension(rule) => rule.entry(),
             Rule::CrlEntry(rule) => rule.entry(),
             Rule::Request(rule) => rule.entry(),
+            Rule::RequestExtensionMalformed(kind) => request_malformed(kind),
+            Rule::RequestName(rule) => rule.entry(),
             Rule::Anchor(rule) => rule.entry(),
+            Rule::AnchorConstraint(rule) => in_controls(rule),
+            Rule::AnchorExtension(rule) => rule.entry(),
+            Rule::AnchorExtensionMalformed(kind) => anchor_malformed(kind),
         }
     }
 

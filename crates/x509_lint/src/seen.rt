@@ -5,9 +5,7 @@ ghost use Rattle.x509_lint.specs.Request.{requested_extensions, requested_of};
 ghost use Rattle.x509_lint.specs.Seen as grammar;
 
 use crate::request::values::{requested, requested_extensions};
-use crate::rule::{
-    AnchorRule, CrlFieldRule, ExtensionKind, FieldRule, ListRule, RequestRule, Rule,
-};
+use crate::rule::{ExtensionKind, FieldRule, Rule};
 use std::alloc::{AllocError, Global};
 use x509_base::Raw;
 use x509_cert::anchor::{TrustAnchorChoice, TrustAnchorInfo};
@@ -66,7 +64,7 @@ fn signed_seen(
         Rule::Field(FieldRule::SerialNumberTooLong) => {
             shortened(alloc, signed.serial_number().as_bytes())
         }
-        Rule::ExtensionList(ListRule::ExtensionMalformed(kind)) => {
+        Rule::ExtensionMalformed(kind) => {
             value_of(alloc, kind.oid(), members(signed.extensions()))
         }
         _ => Ok(String::new(alloc)),
@@ -93,7 +91,7 @@ pub(crate) fn crl_seen(
     ensures { IfOk result (λ text. string_bytes text ≡ grammar.crl_seen crl.now rule) }
 {
     match rule {
-        Rule::CrlField(CrlFieldRule::ExtensionMalformed(kind)) => value_of(
+        Rule::CrlExtensionMalformed(kind) => value_of(
             alloc,
             kind.oid(),
             members(crl.tbs_cert_list.crl_extensions.as_ref()),
@@ -126,9 +124,7 @@ pub(crate) fn request_seen(
     ensures { IfOk result (λ text. string_bytes text ≡ grammar.request_seen request.now rule) }
 {
     match rule {
-        Rule::Request(RequestRule::ExtensionMalformed(kind)) => {
-            requested_seen(alloc, request, kind)
-        }
+        Rule::RequestExtensionMalformed(kind) => { requested_seen(alloc, request, kind) }
         _ => Ok(String::new(alloc)),
     }
 }
@@ -138,7 +134,7 @@ fn info_seen(alloc: Global, info: &TrustAnchorInfo<Raw>, rule: Rule) -> Result<S
     ensures { IfOk result (λ text. string_bytes text ≡ grammar.info_seen info.now rule) }
 {
     match rule {
-        Rule::Anchor(AnchorRule::ExtensionMalformed(kind)) => {
+        Rule::AnchorExtensionMalformed(kind) => {
             value_of(alloc, kind.oid(), members(info.extensions.as_ref()))
         }
         _ => Ok(String::new(alloc)),

@@ -15,7 +15,6 @@ use x509_prim::Uint;
 ///     inhibitPolicyMapping   [1] IMPLICIT SkipCerts OPTIONAL }
 /// SkipCerts ::= INTEGER (0..MAX)
 /// ```
-#[derive(Debug)]
 pub(crate) struct AnyPolicyConstraints {
     /// After how many certificates a policy has to be acceptable.
     pub(crate) require_explicit_policy: Option<Uint>,
@@ -83,7 +82,6 @@ impl Spelled for AnyPolicyConstraints {
 }
 
 /// Inhibit anyPolicy as RFC 5280 4.2.1.14 allows it, SkipCerts: that of `x509_ext` has a number below 2^32.
-#[derive(Debug)]
 pub(crate) struct AnyInhibitAnyPolicy(pub(crate) Uint);
 
 impl Drop for AnyInhibitAnyPolicy {

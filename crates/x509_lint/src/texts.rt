@@ -13,7 +13,7 @@ use x509_name::attr::attribute_types::{DOMAIN_COMPONENT, EMAIL_ADDRESS};
 use x509_name::name::{Name, RdnSequence, RelativeDistinguishedName};
 
 /// What may be wrong with the text of an attribute (RFC 5280 4.1.2.4, A.1).
-#[derive(Clone, Copy, Debug, PartialEq, Eq)]
+#[derive(Clone, Copy)]
 pub(crate) enum TextFault {
     /// It is of a string type that the attribute doesn't have.
     OtherType,
@@ -277,7 +277,7 @@ pub(crate) fn has_faulty_text(fault: TextFault, name: &Name) -> bool
 fn has_email_in(rdn: &RelativeDistinguishedName) -> bool
     ensures { result ≡ list_any (λ a. bytes_eq a.oid text.email_address) rdn.now }
 {
-    rdn.as_slice().iter().any(|attribute| is_email(attribute))
+    rdn.as_slice().iter().any(is_email)
 }
 
 /// Whether an attribute of the name is an emailAddress.
@@ -285,5 +285,5 @@ pub(crate) fn has_email(name: &Name) -> bool
     ensures { result ≡ text.has_email name.now }
 {
     let rdns: &RdnSequence = name.as_ref();
-    rdns.as_slice().iter().any(|rdn| has_email_in(rdn))
+    rdns.as_slice().iter().any(has_email_in)
 }

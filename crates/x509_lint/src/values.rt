@@ -3,16 +3,18 @@
 
 ghost use Rattle.std.specs.Prelude.{◌≡◌, IfOk, IfErr};
 ghost use Rattle.x509_der.specs.declared.error.ErrorKind.TheVariants.{Memory};
-ghost use Rattle.x509_lint.specs.Values.{AreAlternativeValues, AreAuthorityValues, AreConstraintValues, AreCrlValues, AreKeyValues, ArePointValues, ArePolicyValues};
+ghost use Rattle.x509_lint.specs.Values.{AreAlternativeValues, AreAuthorityValues, AreConstraintValues, AreCrlValues, AreKeyValues, ArePointValues, ArePolicyValues, ArePublicKeyValues};
 
 use crate::asserted::has_unasserted;
 use crate::basic_constraints::AnyBasicConstraints;
-use crate::extensions::payload;
+use crate::extensions::{extensions_of, payload, spelled};
 use crate::notices::{NoticeFault, has_faulty_notice};
 use crate::repeats::{are_policies_distinct, policies_of};
 use crate::skip_certs::AnyPolicyConstraints;
 use std::alloc::Global;
-use x509_der::Error;
+use x509_base::Raw;
+use x509_cert::certificate::CertificateInner;
+use x509_der::{Error, SequenceOf};
 use x509_ext::Extension;
 use x509_ext::pkix::{
     AuthorityInfoAccessSyntax, AuthorityKeyIdentifier, CertificatePolicies, CrlDistributionPoints,
@@ -20,9 +22,9 @@ use x509_ext::pkix::{
     NameConstraints, PolicyMappings, PrivateKeyUsagePeriod, SubjectAltName,
     SubjectDirectoryAttributes, SubjectInfoAccessSyntax,
 };
+use x509_prim::Uint;
 
 /// The basic constraints and the key usage of a certificate, by which it is or isn't one of a certification authority (CA).
-#[derive(Debug)]
 pub(crate) struct AuthorityValues {
     pub(crate) basic_constraints: Option<AnyBasicConstraints>,
     pub(crate) key_usage: Option<KeyUsage>,
@@ -51,7 +53,6 @@ pub(crate) fn authority_values(
 }
 
 /// Key identifiers, extended key usage and the private key usage period.
-#[derive(Debug)]
 pub(crate) struct KeyValues {
     pub(crate) authority_key_identifier: Option<AuthorityKeyIdentifier>,
     pub(crate) extended_key_usage: Option<ExtendedKeyUsage>,
@@ -80,7 +81,6 @@ pub(crate) fn key_values(alloc: Global, extensions: &[Extension]) -> Result<KeyV
 }
 
 /// The alternative names of the subject and the issuer.
-#[derive(Debug)]
 pub(crate) struct AlternativeValues {
     pub(crate) subject_alt_name: Option<SubjectAltName>,
     pub(crate) issuer_alt_name: Option<IssuerAltName>,
@@ -109,7 +109,6 @@ pub(crate) fn alternative_values(
 }
 
 /// Certificate policies, policy mappings and policy constraints.
-#[derive(Debug)]
 pub(crate) struct PolicyValues {
     pub(crate) certificate_policies: Option<CertificatePolicies>,
     pub(crate) policy_mappings: Option<PolicyMappings>,
@@ -202,7 +201,6 @@ pub(crate) fn policy_values(alloc: Global, extensions: &[Extension]) -> Result<P
 }
 
 /// Name constraints.
-#[derive(Debug)]
 pub(crate) struct ConstraintValues {
     pub(crate) name_constraints: Option<NameConstraints>,
 }
@@ -228,7 +226,6 @@ pub(crate) fn constraint_values(
 }
 
 /// Lists of attributes, of CRL distribution points and of access descriptions.
-#[derive(Debug)]
 pub(crate) struct PointValues {
     pub(crate) subject_directory_attributes: Option<SubjectDirectoryAttributes>,
     pub(crate) crl_distribution_points: Option<CrlDistributionPoints>,
@@ -262,8 +259,37 @@ pub(crate) fn point_values(alloc: Global, extensions: &[Extension]) -> Result<Po
     })
 }
 
+/// The numbers of the public key, and what it may be used for.
+pub(crate) struct PublicKeyValues {
+    /// The numbers, where the octets of the key are a SEQUENCE OF INTEGER.
+    pub(crate) key_numbers: Option<SequenceOf<Uint>>,
+    pub(crate) key_usage: Option<KeyUsage>,
+}
+
+impl Drop for PublicKeyValues {
+    fn drop(self) {
+        let PublicKeyValues {
+            key_numbers: _,
+            key_usage: _,
+        } = self;
+    }
+}
+
+pub(crate) fn public_key_values(
+    alloc: Global,
+    certificate: &CertificateInner<Raw>,
+) -> Result<PublicKeyValues, Error>
+    ensures ok { IfOk result (ArePublicKeyValues certificate.now) }
+    ensures err { IfErr result (λ e. e.kind ≡ Memory) }
+{
+    let key = certificate.tbs_certificate().subject_public_key_info();
+    Ok(PublicKeyValues {
+        key_numbers: spelled(alloc, key.subject_public_key.raw_bytes())?,
+        key_usage: payload(alloc, extensions_of(certificate))?,
+    })
+}
+
 /// The extensions of a CRL.
-#[derive(Debug)]
 pub(crate) struct CrlValues {
     pub(crate) authority_key_identifier: Option<AuthorityKeyIdentifier>,
     pub(crate) crl_number: Option<CrlNumber>,

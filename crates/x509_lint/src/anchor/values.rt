@@ -21,7 +21,6 @@ use x509_name::laws::equal_names_are_one_value;
 use x509_name::name::Name;
 
 /// What is asked of the description of a trust anchor beside its fields.
-#[derive(Debug)]
 pub(crate) struct AnchorValues {
     /// The subject of the certificate isn't the name of the anchor.
     pub(crate) subject_differs: bool,

@@ -16,7 +16,7 @@ use x509_name::attr::Attribute;
 const MAX_PASSWORD: usize = 255;
 
 /// What may be wrong with a value of a challengePassword (RFC 2985 5.4.1).
-#[derive(Clone, Copy, Debug, PartialEq, Eq)]
+#[derive(Clone, Copy)]
 pub(crate) enum PasswordFault {
     /// It is a DirectoryString of none or too many characters.
     Size,

@@ -20,7 +20,6 @@ use x509_ext::{Extension, has_repeated_extension};
 use x509_name::attr::{Attribute, Attributes};
 
 /// What is asked of a CSR beside its fields.
-#[derive(Debug)]
 pub(crate) struct RequestValues {
     /// No two attributes are of one type.
     pub(crate) are_types_distinct: bool,

@@ -1,16 +1,43 @@
 //! Rules on trust anchors (RFC 5914 2, RFC 5280 4.1.2.4, 4.2).
 
-ghost use Rattle.std.specs.Prelude.{◌≡◌};
-ghost use Rattle.x509_lint.specs.Anchor.{anchor_extension_place, anchor_wording};
+ghost use Rattle.std.specs.List.{list_all, list_any};
+ghost use Rattle.std.specs.Prelude.{◌≡◌, bytes_eq, is_some, length, not};
+ghost use Rattle.std.specs.Str.{chars};
+ghost use Rattle.x509_lint.specs.Anchor as grammar;
+ghost use Rattle.x509_lint.specs.Constraint.{breaks_name_constraints};
+ghost use Rattle.x509_lint.specs.Dns.{is_letter_or_digit};
+ghost use Rattle.x509_lint.specs.Text.{has_faulty_text, is_outside};
 ghost use Rattle.x509_lint.specs.Wording.{Says};
-ghost use Rattle.x509_lint.specs.declared.rule.anchor.AnchorRule.TheVariants.{NameConstraint};
+ghost use Rattle.x509_lint.specs.Words.{is_empty, passes};
 
-use crate::entry::{Entry, must, must_of, should, should_of};
-use crate::rule::list::{extension_place, with_malformed};
-use crate::rule::{ConstraintRule, ExtensionKind};
-use crate::told;
+use crate::anchor::values::{AnchorValues, policy_set};
+use crate::dns::is_letter_or_digit;
+use crate::entry::{Entry, rules};
+use crate::extensions::{has, is_empty_sequence};
+use crate::group::{Group, Told};
+use crate::names::{has_empty_rdn, has_no_country, is_empty_name};
+use crate::notices::count_chars;
+use crate::passes;
+use crate::rule::constraint::breaks_name_constraints;
+use crate::rule::list::malformed;
+use crate::rule::{ConstraintRule, ExtensionKind, Rule};
+use crate::texts::{TextFault, has_faulty_text, is_outside};
+use x509_base::Raw;
+use x509_cert::anchor::{CertPathControls, TrustAnchorInfo};
+use x509_ext::members;
+use x509_ext::pkix::certpolicy::PolicyInformation;
+use x509_ext::pkix::{
+    CertificatePolicies, InhibitAnyPolicy, NameConstraints, PolicyConstraints, SubjectKeyIdentifier,
+};
+use x509_prim::{OctetString, Utf8String};
 
-/// Rules on the descriptions of trust anchors (RFC 5914 2, RFC 5280 4.1.2.4, 4.2).
+/// The most characters that a title has (RFC 5914 2.4).
+const MAX_TITLE: usize = 64;
+
+/// The most octets that a subtag of a language tag has (RFC 5646 2.1).
+const MAX_SUBTAG: usize = 8;
+
+/// Rules on the title and the controls of trust anchors (RFC 5914 2, RFC 5280 4.1.2.4, 4.2.1.4).
 #[derive(Clone, Copy, Debug, PartialEq, Eq)]
 pub enum AnchorRule {
     /// The title is empty, or has more than 64 characters (RFC 5914 2.4, error).
@@ -58,75 +85,129 @@ pub enum AnchorRule {
 
     /// A policy of the set has qualifiers (RFC 5914 2.5, error).
     PolicySetQualifiers,
-
-    /// The name constraints break that rule (RFC 5280 4.2.1.10).
-    NameConstraint(ConstraintRule),
-
-    /// The list of extensions is there, and has none (RFC 5280 4.1.2.9, error).
-    ExtensionsEmpty,
-
-    /// Two extensions have one OID (RFC 5280 4.2, error).
-    ExtensionRepeated,
-
-    /// Certificate policies are among the extensions (RFC 5914 2.6, error).
-    CertificatePoliciesInExts,
-
-    /// Policy constraints are among the extensions (RFC 5914 2.6, error).
-    PolicyConstraintsInExts,
-
-    /// An inhibitAnyPolicy is among the extensions (RFC 5914 2.6, error).
-    InhibitAnyPolicyInExts,
-
-    /// Name constraints are among the extensions (RFC 5914 2.6, error).
-    NameConstraintsInExts,
-
-    /// The octets of an extension of the type aren't an encoding of the type that RFC 5280 has for its OID, nor have
-    /// what this library's decoder doesn't hold (RFC 5280 4.2, error).
-    ExtensionMalformed(ExtensionKind),
 }
 
-pub(crate) const ANCHOR_RULES: [AnchorRule; 47] = with_malformed! { AnchorRule:
-    AnchorRule::TaTitleSize,
-    AnchorRule::TaTitleLangTagInvalid,
-    AnchorRule::TaNameEmpty,
-    AnchorRule::TaNameRdnEmpty,
-    AnchorRule::TaNameCountryNameInvalid,
-    AnchorRule::TaNameTextType,
-    AnchorRule::TaNameTextOldType,
-    AnchorRule::TaNameTextCharacters,
-    AnchorRule::TaNameTextSize,
-    AnchorRule::CertificateSubjectDiffers,
-    AnchorRule::CertificateKeyDiffers,
-    AnchorRule::CertificateKeyIdentifierDiffers,
-    AnchorRule::PolicySetEmpty,
-    AnchorRule::PolicySetRepeated,
-    AnchorRule::PolicySetQualifiers,
-    AnchorRule::NameConstraint(ConstraintRule::NameConstraintsEmpty),
-    AnchorRule::NameConstraint(ConstraintRule::NameConstraintsOtherForm),
-    AnchorRule::NameConstraint(ConstraintRule::NameConstraintsSubtreesEmpty),
-    AnchorRule::NameConstraint(ConstraintRule::NameConstraintsMinimum),
-    AnchorRule::NameConstraint(ConstraintRule::NameConstraintsMaximum),
-    AnchorRule::NameConstraint(ConstraintRule::NameConstraintsUriInvalid),
-    AnchorRule::NameConstraint(ConstraintRule::NameConstraintsAddressLength),
-    AnchorRule::NameConstraint(ConstraintRule::NameConstraintsAddressMask),
-    AnchorRule::ExtensionsEmpty,
-    AnchorRule::ExtensionRepeated,
-    AnchorRule::CertificatePoliciesInExts,
-    AnchorRule::PolicyConstraintsInExts,
-    AnchorRule::InhibitAnyPolicyInExts,
-    AnchorRule::NameConstraintsInExts;
+/// The rules in their order, with how each is told.
+pub(crate) static ANCHOR_RULES: [Told<AnchorRule>; 15] = rules! { AnchorRule;
+    TaTitleSize => must_of("RFC 5914", "ta_title_size", "2.4", "taInfo.taTitle"),
+    TaTitleLangTagInvalid => should_of("RFC 5914", "ta_title_lang_tag_invalid", "2.4", "taInfo.taTitleLangTag"),
+    TaNameEmpty => must_of("RFC 5914", "ta_name_empty", "2.5", "taInfo.certPath.taName"),
+    TaNameRdnEmpty => must("ta_name_rdn_empty", "4.1.2.4", "taInfo.certPath.taName"),
+    TaNameCountryNameInvalid => must("ta_name_country_name_invalid", "A.1", "taInfo.certPath.taName"),
+    TaNameTextType => must("ta_name_text_type", "A.1", "taInfo.certPath.taName"),
+    TaNameTextOldType => should("ta_name_text_old_type", "4.1.2.4", "taInfo.certPath.taName"),
+    TaNameTextCharacters => must("ta_name_text_characters", "4.1.2.4", "taInfo.certPath.taName"),
+    TaNameTextSize => must("ta_name_text_size", "A.1", "taInfo.certPath.taName"),
+    CertificateSubjectDiffers => must_of("RFC 5914", "certificate_subject_differs", "2.5", "taInfo.certPath.certificate.tbsCertificate.subject"),
+    CertificateKeyDiffers => must_of("RFC 5914", "certificate_key_differs", "2.5", "taInfo.certPath.certificate.tbsCertificate.subjectPublicKeyInfo"),
+    CertificateKeyIdentifierDiffers => must_of("RFC 5914", "certificate_key_identifier_differs", "2.5", "taInfo.certPath.certificate.tbsCertificate.extensions.subjectKeyIdentifier"),
+    PolicySetEmpty => must("policy_set_empty", "4.2.1.4", "taInfo.certPath.policySet"),
+    PolicySetRepeated => must("policy_set_repeated", "4.2.1.4", "taInfo.certPath.policySet"),
+    PolicySetQualifiers => must_of("RFC 5914", "policy_set_qualifiers", "2.5", "taInfo.certPath.policySet"),
 };
 
-/// The place of an extension.
-fn place_of(kind: ExtensionKind) -> &'static str
-    ensures { result.now ≡ anchor_extension_place kind }
+impl AnchorRule {
+    /// How bad it is to break the rule, its name, its section, and its place.
+    pub fn entry(self) -> Entry
+        ensures { Says result (grammar.anchor_sentence self).wording }
+    {
+        ANCHOR_RULES[self as usize].entry
+    }
+}
+
+fn has_odd_size(title: &Option<Utf8String>) -> bool
+    ensures { result ≡ passes (λ title. is_outside 64 (length (chars title))) title.now }
 {
-    extension_place!("taInfo.exts.", kind)
+    passes!(title, title => is_outside(MAX_TITLE, count_chars(title.as_str())))
+}
+
+fn are_letters_and_digits(octets: &[u8]) -> bool
+    ensures { result ≡ list_all is_letter_or_digit octets.now }
+{
+    octets.iter().all(|octet| is_letter_or_digit(*octet))
+}
+
+fn is_subtag(octets: &[u8]) -> bool
+    ensures { result ≡ grammar.is_subtag octets.now }
+{
+    are_letters_and_digits(octets) && !is_outside(MAX_SUBTAG, octets.len())
+}
+
+fn are_subtags(text: &[u8]) -> bool
+    ensures { result ≡ grammar.are_subtags text.now }
+{
+    text.split(|octet| *octet == b'-')
+        .all(|subtag| is_subtag(subtag))
+}
+
+fn has_faulty_name(fault: TextFault, controls: &Option<CertPathControls<Raw>>) -> bool
+    ensures { result ≡ passes (λ c. has_faulty_text fault c.ta_name) controls.now }
+{
+    passes!(controls, controls => has_faulty_text(fault, &controls.ta_name))
+}
+
+/// Whether the key identifier isn't this one.
+fn is_other_identifier(found: &Option<SubjectKeyIdentifier>, key_id: &OctetString) -> bool
+    ensures { result ≡ passes (λ k. not (bytes_eq k.0 key_id.now)) found.now }
+{
+    passes!(found, found => found.0 != *key_id)
+}
+
+fn has_qualifiers(policies: &[PolicyInformation]) -> bool
+    ensures { result ≡ list_any (λ p. is_some p.policy_qualifiers) policies.now }
+{
+    policies
+        .iter()
+        .any(|policy| policy.policy_qualifiers.is_some())
+}
+
+impl Group<TrustAnchorInfo<Raw>, AnchorValues> for AnchorRule {
+    ghost use Rattle.x509_lint.specs.Anchor.{anchor_sentence};
+    ghost use Rattle.x509_lint.specs.declared.rule.Rule.TheVariants.{Anchor};
+
+    ghost sentence = { anchor_sentence };
+
+    ghost as_rule = { λ rule. Anchor rule };
+
+    fn is_broken(&self, info: &TrustAnchorInfo<Raw>, values: &AnchorValues) -> bool {
+        match self {
+            AnchorRule::TaTitleSize => has_odd_size(&info.ta_title),
+            AnchorRule::TaTitleLangTagInvalid =>
+                passes!(&info.ta_title_lang_tag, tag => !are_subtags(tag.as_str().as_bytes())),
+            AnchorRule::TaNameEmpty =>
+                passes!(&info.cert_path, controls => is_empty_name(&controls.ta_name)),
+            AnchorRule::TaNameRdnEmpty =>
+                passes!(&info.cert_path, controls => has_empty_rdn(&controls.ta_name)),
+            AnchorRule::TaNameCountryNameInvalid =>
+                passes!(&info.cert_path, controls => has_no_country(&controls.ta_name)),
+            AnchorRule::TaNameTextType => has_faulty_name(TextFault::OtherType, &info.cert_path),
+            AnchorRule::TaNameTextOldType => has_faulty_name(TextFault::OldType, &info.cert_path),
+            AnchorRule::TaNameTextCharacters => has_faulty_name(
+                TextFault::OtherCharacter,
+                &info.cert_path,
+            ),
+            AnchorRule::TaNameTextSize => has_faulty_name(TextFault::Size, &info.cert_path),
+            AnchorRule::CertificateSubjectDiffers => values.subject_differs,
+            AnchorRule::CertificateKeyDiffers => values.key_differs,
+            AnchorRule::CertificateKeyIdentifierDiffers => is_other_identifier(
+                &values.key_identifier,
+                &info.key_id,
+            ),
+            AnchorRule::PolicySetEmpty =>
+                passes!(&info.cert_path, controls => passes!(&controls.policy_set, policies => policies.0.as_slice().is_empty())),
+            AnchorRule::PolicySetRepeated => !values.are_policies_distinct,
+            AnchorRule::PolicySetQualifiers => has_qualifiers(policy_set(&info.cert_path)),
+        }
+    }
+
+    fn to_rule(&self) -> Rule {
+        Rule::Anchor(*self)
+    }
 }
 
 /// The entry of a rule on name constraints, at their place in the controls.
-fn in_controls(rule: ConstraintRule) -> Entry
-    ensures { Says result (anchor_wording (NameConstraint rule)) }
+pub(crate) fn in_controls(rule: ConstraintRule) -> Entry
+    ensures { Says result (grammar.anchor_constraint_sentence rule).wording }
 {
     let Entry {
         severity,
@@ -144,36 +225,126 @@ fn in_controls(rule: ConstraintRule) -> Entry
     }
 }
 
-impl AnchorRule {
+fn breaks_constraints(rule: ConstraintRule, constraints: &Option<NameConstraints>) -> bool
+    ensures { result ≡ passes (breaks_name_constraints rule) constraints.now }
+{
+    passes!(constraints, constraints => breaks_name_constraints(rule, constraints))
+}
+
+impl Group<TrustAnchorInfo<Raw>, AnchorValues> for ConstraintRule {
+    ghost use Rattle.x509_lint.specs.Anchor.{anchor_constraint_sentence};
+    ghost use Rattle.x509_lint.specs.declared.rule.Rule.TheVariants.{AnchorConstraint};
+
+    ghost sentence = { anchor_constraint_sentence };
+
+    ghost as_rule = { λ rule. AnchorConstraint rule };
+
+    fn is_broken(&self, info: &TrustAnchorInfo<Raw>, _values: &AnchorValues) -> bool {
+        passes!(&info.cert_path, controls => breaks_constraints(*self, &controls.name_constr))
+    }
+
+    fn to_rule(&self) -> Rule {
+        Rule::AnchorConstraint(*self)
+    }
+}
+
+/// Rules on the extensions of trust anchors as a list (RFC 5914 2.6, RFC 5280 4.1.2.9, 4.2).
+#[derive(Clone, Copy, Debug, PartialEq, Eq)]
+pub enum AnchorExtensionRule {
+    /// The list of extensions is there, and has none (RFC 5280 4.1.2.9, error).
+    ExtensionsEmpty,
+
+    /// Two extensions have one OID (RFC 5280 4.2, error).
+    ExtensionRepeated,
+
+    /// Certificate policies are among the extensions (RFC 5914 2.6, error).
+    CertificatePoliciesInExts,
+
+    /// Policy constraints are among the extensions (RFC 5914 2.6, error).
+    PolicyConstraintsInExts,
+
+    /// An inhibitAnyPolicy is among the extensions (RFC 5914 2.6, error).
+    InhibitAnyPolicyInExts,
+
+    /// Name constraints are among the extensions (RFC 5914 2.6, error).
+    NameConstraintsInExts,
+}
+
+/// The rules in their order, with how each is told.
+pub(crate) static ANCHOR_EXTENSION_RULES: [Told<AnchorExtensionRule>; 6] =
+    rules! { AnchorExtensionRule;
+    ExtensionsEmpty => must("extensions_empty", "4.1.2.9", "taInfo.exts"),
+    ExtensionRepeated => must("extension_repeated", "4.2", "taInfo.exts"),
+    CertificatePoliciesInExts => must_of("RFC 5914", "certificate_policies_in_exts", "2.6", "taInfo.exts.certificatePolicies"),
+    PolicyConstraintsInExts => must_of("RFC 5914", "policy_constraints_in_exts", "2.6", "taInfo.exts.policyConstraints"),
+    InhibitAnyPolicyInExts => must_of("RFC 5914", "inhibit_any_policy_in_exts", "2.6", "taInfo.exts.inhibitAnyPolicy"),
+    NameConstraintsInExts => must_of("RFC 5914", "name_constraints_in_exts", "2.6", "taInfo.exts.nameConstraints"),
+};
+
+impl AnchorExtensionRule {
     /// How bad it is to break the rule, its name, its section, and its place.
     pub fn entry(self) -> Entry
-        ensures { Says result (anchor_wording self) }
+        ensures { Says result (grammar.anchor_extension_sentence self).wording }
     {
-        told! { self: AnchorRule;
-            TaTitleSize => must_of("RFC 5914", "ta_title_size", "2.4", "taInfo.taTitle"),
-            TaTitleLangTagInvalid => should_of("RFC 5914", "ta_title_lang_tag_invalid", "2.4", "taInfo.taTitleLangTag"),
-            TaNameEmpty => must_of("RFC 5914", "ta_name_empty", "2.5", "taInfo.certPath.taName"),
-            TaNameRdnEmpty => must("ta_name_rdn_empty", "4.1.2.4", "taInfo.certPath.taName"),
-            TaNameCountryNameInvalid => must("ta_name_country_name_invalid", "A.1", "taInfo.certPath.taName"),
-            TaNameTextType => must("ta_name_text_type", "A.1", "taInfo.certPath.taName"),
-            TaNameTextOldType => should("ta_name_text_old_type", "4.1.2.4", "taInfo.certPath.taName"),
-            TaNameTextCharacters => must("ta_name_text_characters", "4.1.2.4", "taInfo.certPath.taName"),
-            TaNameTextSize => must("ta_name_text_size", "A.1", "taInfo.certPath.taName"),
-            CertificateSubjectDiffers => must_of("RFC 5914", "certificate_subject_differs", "2.5", "taInfo.certPath.certificate.tbsCertificate.subject"),
-            CertificateKeyDiffers => must_of("RFC 5914", "certificate_key_differs", "2.5", "taInfo.certPath.certificate.tbsCertificate.subjectPublicKeyInfo"),
-            CertificateKeyIdentifierDiffers =>
-                must_of("RFC 5914", "certificate_key_identifier_differs", "2.5", "taInfo.certPath.certificate.tbsCertificate.extensions.subjectKeyIdentifier"),
-            PolicySetEmpty => must("policy_set_empty", "4.2.1.4", "taInfo.certPath.policySet"),
-            PolicySetRepeated => must("policy_set_repeated", "4.2.1.4", "taInfo.certPath.policySet"),
-            PolicySetQualifiers => must_of("RFC 5914", "policy_set_qualifiers", "2.5", "taInfo.certPath.policySet"),
-            NameConstraint(rule) => in_controls(rule),
-            ExtensionsEmpty => must("extensions_empty", "4.1.2.9", "taInfo.exts"),
-            ExtensionRepeated => must("extension_repeated", "4.2", "taInfo.exts"),
-            CertificatePoliciesInExts => must_of("RFC 5914", "certificate_policies_in_exts", "2.6", "taInfo.exts.certificatePolicies"),
-            PolicyConstraintsInExts => must_of("RFC 5914", "policy_constraints_in_exts", "2.6", "taInfo.exts.policyConstraints"),
-            InhibitAnyPolicyInExts => must_of("RFC 5914", "inhibit_any_policy_in_exts", "2.6", "taInfo.exts.inhibitAnyPolicy"),
-            NameConstraintsInExts => must_of("RFC 5914", "name_constraints_in_exts", "2.6", "taInfo.exts.nameConstraints"),
-            ExtensionMalformed(kind) => must("extension_malformed", "4.2", place_of(kind)),
+        ANCHOR_EXTENSION_RULES[self as usize].entry
+    }
+}
+
+impl Group<TrustAnchorInfo<Raw>, AnchorValues> for AnchorExtensionRule {
+    ghost use Rattle.x509_lint.specs.Anchor.{anchor_extension_sentence};
+    ghost use Rattle.x509_lint.specs.declared.rule.Rule.TheVariants.{AnchorExtension};
+
+    ghost sentence = { anchor_extension_sentence };
+
+    ghost as_rule = { λ rule. AnchorExtension rule };
+
+    fn is_broken(&self, info: &TrustAnchorInfo<Raw>, values: &AnchorValues) -> bool {
+        match self {
+            AnchorExtensionRule::ExtensionsEmpty => is_empty_sequence(&info.extensions),
+            AnchorExtensionRule::ExtensionRepeated => values.is_repeated,
+            AnchorExtensionRule::CertificatePoliciesInExts => {
+                has::<CertificatePolicies>(members(info.extensions.as_ref()))
+            }
+            AnchorExtensionRule::PolicyConstraintsInExts => {
+                has::<PolicyConstraints>(members(info.extensions.as_ref()))
+            }
+            AnchorExtensionRule::InhibitAnyPolicyInExts => {
+                has::<InhibitAnyPolicy>(members(info.extensions.as_ref()))
+            }
+            AnchorExtensionRule::NameConstraintsInExts => {
+                has::<NameConstraints>(members(info.extensions.as_ref()))
+            }
         }
+    }
+
+    fn to_rule(&self) -> Rule {
+        Rule::AnchorExtension(*self)
+    }
+}
+
+/// Of each type of extension, that the octets of one of it aren't an encoding of the type.
+static ANCHOR_MALFORMED: [Told<ExtensionKind>; 18] = malformed!("taInfo.exts.");
+
+/// How the rule is told that an extension of the type is malformed.
+pub(crate) fn anchor_malformed(kind: ExtensionKind) -> Entry
+    ensures { Says result (grammar.anchor_malformed_sentence kind).wording }
+{
+    ANCHOR_MALFORMED[kind as usize].entry
+}
+
+impl Group<TrustAnchorInfo<Raw>, AnchorValues> for ExtensionKind {
+    ghost use Rattle.x509_lint.specs.Anchor.{anchor_malformed_sentence};
+    ghost use Rattle.x509_lint.specs.declared.rule.Rule.TheVariants.{AnchorExtensionMalformed};
+
+    ghost sentence = { anchor_malformed_sentence };
+
+    ghost as_rule = { λ kind. AnchorExtensionMalformed kind };
+
+    fn is_broken(&self, _info: &TrustAnchorInfo<Raw>, values: &AnchorValues) -> bool {
+        !values.read.is_read(*self)
+    }
+
+    fn to_rule(&self) -> Rule {
+        Rule::AnchorExtensionMalformed(*self)
     }
 }

@@ -1,10 +1,21 @@
 //! Rules on the extensions of a CRL's entries (RFC 5280 5.3).
 
-ghost use Rattle.x509_lint.specs.CrlEntry.{crl_entry_wording};
+ghost use Rattle.std.specs.Prelude.{◌≡◌};
+ghost use Rattle.x509_lint.specs.CrlEntry as grammar;
 ghost use Rattle.x509_lint.specs.Wording.{Says};
+ghost use Rattle.x509_lint.specs.Words.{passes};
 
-use crate::entry::{Entry, must, should};
-use crate::told;
+use crate::entries::{EntryFault, has_fault};
+use crate::entry::{Entry, rules};
+use crate::extensions::has;
+use crate::group::{Group, Told};
+use crate::passes;
+use crate::rule::Rule;
+use crate::values::CrlValues;
+use x509_base::Raw;
+use x509_cert::crl::CertificateList;
+use x509_ext::pkix::{BaseCrlNumber, IssuingDistributionPoint};
+use x509_ext::{Extension, members};
 
 /// Rules on the extensions of a CRL's entries (RFC 5280 5.3).
 #[derive(Clone, Copy, Debug, PartialEq, Eq)]
@@ -35,33 +46,76 @@ pub enum CrlEntryRule {
     EntryCertificateIssuerNotIndirect,
 }
 
-pub(crate) const CRL_ENTRY_RULES: [CrlEntryRule; 8] = [
-    CrlEntryRule::EntryReasonCritical,
-    CrlEntryRule::EntryReasonUnspecified,
-    CrlEntryRule::EntryReasonRemoveFromCrl,
-    CrlEntryRule::EntryReasonInvalid,
-    CrlEntryRule::EntryInvalidityDateCritical,
-    CrlEntryRule::EntryInvalidityDateInvalid,
-    CrlEntryRule::EntryCertificateIssuerNotCritical,
-    CrlEntryRule::EntryCertificateIssuerNotIndirect,
-];
+/// The rules in their order, with how each is told.
+pub(crate) static CRL_ENTRY_RULES: [Told<CrlEntryRule>; 8] = rules! { CrlEntryRule;
+    EntryReasonCritical => must("entry_reason_critical", "5.3.1", "tbsCertList.revokedCertificates.crlEntryExtensions.reasonCode"),
+    EntryReasonUnspecified => should("entry_reason_unspecified", "5.3.1", "tbsCertList.revokedCertificates.crlEntryExtensions.reasonCode"),
+    EntryReasonRemoveFromCrl => must("entry_reason_remove_from_crl", "5.3.1", "tbsCertList.revokedCertificates.crlEntryExtensions.reasonCode"),
+    EntryReasonInvalid => must("entry_reason_invalid", "5.3.1", "tbsCertList.revokedCertificates.crlEntryExtensions.reasonCode"),
+    EntryInvalidityDateCritical => must("entry_invalidity_date_critical", "5.3.2", "tbsCertList.revokedCertificates.crlEntryExtensions.invalidityDate"),
+    EntryInvalidityDateInvalid => must("entry_invalidity_date_invalid", "5.3.2", "tbsCertList.revokedCertificates.crlEntryExtensions.invalidityDate"),
+    EntryCertificateIssuerNotCritical => must("entry_certificate_issuer_not_critical", "5.3.3", "tbsCertList.revokedCertificates.crlEntryExtensions.certificateIssuer"),
+    EntryCertificateIssuerNotIndirect => must("entry_certificate_issuer_not_indirect", "5.3.3", "tbsCertList.revokedCertificates.crlEntryExtensions.certificateIssuer"),
+};
 
 impl CrlEntryRule {
     /// How bad it is to break the rule, its name, its section, and its place.
     pub fn entry(self) -> Entry
-        ensures { Says result (crl_entry_wording self) }
+        ensures { Says result (grammar.crl_entry_sentence self).wording }
     {
-        told! { self: CrlEntryRule;
-            EntryReasonCritical => must("entry_reason_critical", "5.3.1", "tbsCertList.revokedCertificates.crlEntryExtensions.reasonCode"),
-            EntryReasonUnspecified => should("entry_reason_unspecified", "5.3.1", "tbsCertList.revokedCertificates.crlEntryExtensions.reasonCode"),
-            EntryReasonRemoveFromCrl => must("entry_reason_remove_from_crl", "5.3.1", "tbsCertList.revokedCertificates.crlEntryExtensions.reasonCode"),
-            EntryReasonInvalid => must("entry_reason_invalid", "5.3.1", "tbsCertList.revokedCertificates.crlEntryExtensions.reasonCode"),
-            EntryInvalidityDateCritical => must("entry_invalidity_date_critical", "5.3.2", "tbsCertList.revokedCertificates.crlEntryExtensions.invalidityDate"),
-            EntryInvalidityDateInvalid => must("entry_invalidity_date_invalid", "5.3.2", "tbsCertList.revokedCertificates.crlEntryExtensions.invalidityDate"),
-            EntryCertificateIssuerNotCritical =>
-                must("entry_certificate_issuer_not_critical", "5.3.3", "tbsCertList.revokedCertificates.crlEntryExtensions.certificateIssuer"),
-            EntryCertificateIssuerNotIndirect =>
-                must("entry_certificate_issuer_not_indirect", "5.3.3", "tbsCertList.revokedCertificates.crlEntryExtensions.certificateIssuer"),
+        CRL_ENTRY_RULES[self as usize].entry
+    }
+}
+
+/// Whether there is no issuing distribution point, or the one that there is is read and doesn't set indirectCRL.
+fn is_direct(extensions: &[Extension], point: &Option<IssuingDistributionPoint>) -> bool
+    ensures { result ≡ grammar.is_direct extensions.now point.now }
+{
+    !has::<IssuingDistributionPoint>(extensions) || passes!(point, point => !point.indirect_crl)
+}
+
+impl Group<CertificateList<Raw>, CrlValues> for CrlEntryRule {
+    ghost use Rattle.x509_lint.specs.CrlEntry.{crl_entry_sentence};
+    ghost use Rattle.x509_lint.specs.declared.rule.Rule.TheVariants.{CrlEntry};
+
+    ghost sentence = { crl_entry_sentence };
+
+    ghost as_rule = { λ rule. CrlEntry rule };
+
+    fn is_broken(&self, crl: &CertificateList<Raw>, values: &CrlValues) -> bool {
+        let extensions = members(crl.tbs_cert_list.crl_extensions.as_ref());
+        let entries = crl.tbs_cert_list.entries();
+        match self {
+            CrlEntryRule::EntryReasonCritical => has_fault(entries, EntryFault::ReasonCritical),
+            CrlEntryRule::EntryReasonUnspecified => has_fault(
+                entries,
+                EntryFault::ReasonUnspecified,
+            ),
+            CrlEntryRule::EntryReasonRemoveFromCrl => has_fault(
+                entries,
+                EntryFault::ReasonRemoveFromCrl,
+            ) && !has::<BaseCrlNumber>(extensions),
+            CrlEntryRule::EntryReasonInvalid => has_fault(entries, EntryFault::ReasonInvalid),
+            CrlEntryRule::EntryInvalidityDateCritical => has_fault(
+                entries,
+                EntryFault::InvalidityDateCritical,
+            ),
+            CrlEntryRule::EntryInvalidityDateInvalid => has_fault(
+                entries,
+                EntryFault::InvalidityDateInvalid,
+            ),
+            CrlEntryRule::EntryCertificateIssuerNotCritical => has_fault(
+                entries,
+                EntryFault::IssuerNotCritical,
+            ),
+            CrlEntryRule::EntryCertificateIssuerNotIndirect => has_fault(
+                entries,
+                EntryFault::Issuer,
+            ) && is_direct(extensions, &values.issuing_distribution_point),
         }
+    }
+
+    fn to_rule(&self) -> Rule {
+        Rule::CrlEntry(*self)
     }
 }

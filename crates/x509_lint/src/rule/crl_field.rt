@@ -1,16 +1,31 @@
 //! Rules on the fields of a CRL (RFC 5280 5.1).
 
-ghost use Rattle.std.specs.Prelude.{◌≡◌};
-ghost use Rattle.x509_lint.specs.CrlField.{crl_extension_place, crl_field_wording};
+ghost use Rattle.std.specs.List.{list_any};
+ghost use Rattle.std.specs.Prelude.{◌≡◌, is_some, not};
+ghost use Rattle.x509_ext.specs.Identifiers.{id_ce};
+ghost use Rattle.x509_ext.specs.LookUp.{members};
+ghost use Rattle.x509_lint.specs.CrlField as grammar;
 ghost use Rattle.x509_lint.specs.Seen.{crl_extension_oid};
 ghost use Rattle.x509_lint.specs.Wording.{Says};
+ghost use Rattle.x509_lint.specs.Words.{has, is_before, is_early_general, is_empty, passes};
 
-use crate::entry::{Entry, must, should};
-use crate::told;
+use crate::entry::{Entry, rules};
+use crate::extensions::{has, is_empty_sequence};
+use crate::facts::CrlFacts;
+use crate::group::{Group, Told};
+use crate::names::{has_empty_rdn, has_no_country, is_empty_name};
+use crate::passes;
+use crate::rule::Rule;
+use crate::texts::{TextFault, has_faulty_text};
+use crate::times::{is_before, is_early_general};
+use x509_base::{Raw, Time};
+use x509_cert::Version;
+use x509_cert::crl::{CertificateList, RevokedCert};
 use x509_der::{AssociatedOid, ObjectIdentifier};
+use x509_ext::members;
 use x509_ext::pkix::{
-    AuthorityInfoAccessSyntax, AuthorityKeyIdentifier, BaseCrlNumber, CrlNumber, FreshestCrl,
-    IssuerAltName, IssuingDistributionPoint,
+    AuthorityInfoAccessSyntax, AuthorityKeyIdentifier, BaseCrlNumber, CertificateIssuer, CrlNumber,
+    FreshestCrl, IssuerAltName, IssuingDistributionPoint,
 };
 
 /// A type of extension that CRLs have (RFC 5280 5.2).
@@ -38,6 +53,17 @@ pub enum CrlExtensionKind {
     AuthorityInfoAccess,
 }
 
+/// Of each type of extension, that the octets of one of it aren't an encoding of the type.
+pub(crate) static CRL_MALFORMED: [Told<CrlExtensionKind>; 7] = rules! { CrlExtensionKind;
+    AuthorityKeyIdentifier => must("extension_malformed", "5.2", "tbsCertList.crlExtensions.authorityKeyIdentifier"),
+    IssuerAltName => must("extension_malformed", "5.2", "tbsCertList.crlExtensions.issuerAltName"),
+    CrlNumber => must("extension_malformed", "5.2", "tbsCertList.crlExtensions.cRLNumber"),
+    DeltaCrlIndicator => must("extension_malformed", "5.2", "tbsCertList.crlExtensions.deltaCRLIndicator"),
+    IssuingDistributionPoint => must("extension_malformed", "5.2", "tbsCertList.crlExtensions.issuingDistributionPoint"),
+    FreshestCrl => must("extension_malformed", "5.2", "tbsCertList.crlExtensions.freshestCRL"),
+    AuthorityInfoAccess => must("extension_malformed", "5.2", "tbsCertList.crlExtensions.authorityInfoAccess"),
+};
+
 impl CrlExtensionKind {
     /// The OID of the type.
     pub(crate) fn oid(self) -> ObjectIdentifier
@@ -54,22 +80,28 @@ impl CrlExtensionKind {
         }
     }
 
-    /// Its place in a CRL.
-    fn place(self) -> &'static str
-        ensures { result.now ≡ crl_extension_place self }
+    /// How the rule is told that an extension of the type is malformed.
+    pub(crate) fn malformed(self) -> Entry
+        ensures { Says result (grammar.crl_malformed_sentence self).wording }
     {
-        match self {
-            CrlExtensionKind::AuthorityKeyIdentifier =>
-                "tbsCertList.crlExtensions.authorityKeyIdentifier",
-            CrlExtensionKind::IssuerAltName => "tbsCertList.crlExtensions.issuerAltName",
-            CrlExtensionKind::CrlNumber => "tbsCertList.crlExtensions.cRLNumber",
-            CrlExtensionKind::DeltaCrlIndicator => "tbsCertList.crlExtensions.deltaCRLIndicator",
-            CrlExtensionKind::IssuingDistributionPoint =>
-                "tbsCertList.crlExtensions.issuingDistributionPoint",
-            CrlExtensionKind::FreshestCrl => "tbsCertList.crlExtensions.freshestCRL",
-            CrlExtensionKind::AuthorityInfoAccess =>
-                "tbsCertList.crlExtensions.authorityInfoAccess",
-        }
+        CRL_MALFORMED[self as usize].entry
+    }
+}
+
+impl Group<CertificateList<Raw>, CrlFacts> for CrlExtensionKind {
+    ghost use Rattle.x509_lint.specs.CrlField.{crl_malformed_sentence};
+    ghost use Rattle.x509_lint.specs.declared.rule.Rule.TheVariants.{CrlExtensionMalformed};
+
+    ghost sentence = { crl_malformed_sentence };
+
+    ghost as_rule = { λ kind. CrlExtensionMalformed kind };
+
+    fn is_broken(&self, _crl: &CertificateList<Raw>, facts: &CrlFacts) -> bool {
+        !facts.read.is_read(*self)
+    }
+
+    fn to_rule(&self) -> Rule {
+        Rule::CrlExtensionMalformed(*self)
     }
 }
 
@@ -132,11 +164,159 @@ pub enum CrlFieldRule {
 
     /// Two extensions have one OID (RFC 5280 5.2, error).
     ExtensionRepeated,
+}
 
-    /// The octets of an extension aren't an encoding of the type that RFC 5280 has for its OID, nor have what this library's decoder
-    /// doesn't hold (RFC 5280 5.2, error).
-    ExtensionMalformed(CrlExtensionKind),
+/// The rules in their order, with how each is told.
+pub(crate) static CRL_FIELD_RULES: [Told<CrlFieldRule>; 19] = rules! { CrlFieldRule;
+    SignatureAlgorithmsDiffer => must("signature_algorithms_differ", "5.1.1.2", "signatureAlgorithm"),
+    ExtensionsWithoutV2 => must("extensions_without_v2", "5.1.2.1", "tbsCertList.version"),
+    VersionNotV2 => must("version_not_v2", "5.1.2.1", "tbsCertList.version"),
+    IssuerEmpty => must("issuer_empty", "5.1.2.3", "tbsCertList.issuer"),
+    IssuerRdnEmpty => must("issuer_rdn_empty", "5.1.2.3", "tbsCertList.issuer"),
+    IssuerCountryNameInvalid => must("issuer_country_name_invalid", "A.1", "tbsCertList.issuer"),
+    IssuerTextType => must("issuer_text_type", "A.1", "tbsCertList.issuer"),
+    IssuerTextOldType => should("issuer_text_old_type", "5.1.2.3", "tbsCertList.issuer"),
+    IssuerTextCharacters => must("issuer_text_characters", "5.1.2.3", "tbsCertList.issuer"),
+    IssuerTextSize => must("issuer_text_size", "A.1", "tbsCertList.issuer"),
+    ThisUpdateNotUtcTime => must("this_update_not_utc_time", "5.1.2.4", "tbsCertList.thisUpdate"),
+    NextUpdateAbsent => must("next_update_absent", "5.1.2.5", "tbsCertList.nextUpdate"),
+    NextUpdateNotUtcTime => must("next_update_not_utc_time", "5.1.2.5", "tbsCertList.nextUpdate"),
+    NextUpdateBeforeThisUpdate => must("next_update_before_this_update", "5.1.2.5", "tbsCertList.nextUpdate"),
+    RevokedCertificatesEmpty => must("revoked_certificates_empty", "5.1.2.6", "tbsCertList.revokedCertificates"),
+    SerialNumberRepeated => must("serial_number_repeated", "5.1.2.6", "tbsCertList.revokedCertificates.userCertificate"),
+    RevocationDateNotUtcTime => must("revocation_date_not_utc_time", "5.1.2.6", "tbsCertList.revokedCertificates.revocationDate"),
+    ExtensionsEmpty => must("extensions_empty", "5.1.2.7", "tbsCertList.crlExtensions"),
+    ExtensionRepeated => must("extension_repeated", "5.2", "tbsCertList.crlExtensions"),
+};
 
+impl CrlFieldRule {
+    /// How bad it is to break the rule, its name, its section, and its place.
+    pub fn entry(self) -> Entry
+        ensures { Says result (grammar.crl_field_sentence self).wording }
+    {
+        CRL_FIELD_RULES[self as usize].entry
+    }
+}
+
+fn is_v2(version: &Option<Version>) -> bool
+    ensures { result ≡ passes grammar.is_v2 version.now }
+{
+    match version {
+        Some(Version::V2) => true,
+        Some(Version::V1 | Version::V3) => false,
+        None => false,
+    }
+}
+
+fn is_not_v2(version: &Option<Version>) -> bool
+    ensures { result ≡ passes (λ version. not (grammar.is_v2 version)) version.now }
+{
+    match version {
+        Some(Version::V2) => false,
+        Some(Version::V1 | Version::V3) => true,
+        None => false,
+    }
+}
+
+fn have_extensions(entries: &[RevokedCert<Raw>]) -> bool
+    ensures { result ≡ list_any (λ e. is_some e.crl_entry_extensions) entries.now }
+{
+    entries
+        .iter()
+        .any(|entry| entry.crl_entry_extensions.is_some())
+}
+
+fn have_empty_extensions(entries: &[RevokedCert<Raw>]) -> bool
+    ensures { result ≡ list_any (λ e. passes is_empty e.crl_entry_extensions) entries.now }
+{
+    entries
+        .iter()
+        .any(|entry| is_empty_sequence(&entry.crl_entry_extensions))
+}
+
+fn has_issuer(entry: &RevokedCert<Raw>) -> bool
+    ensures { result ≡ has (id_ce 29) (members entry.now.crl_entry_extensions) }
+{
+    has::<CertificateIssuer>(members(entry.crl_entry_extensions.as_ref()))
+}
+
+/// Whether an entry has a certificateIssuer.
+fn has_certificate_issuer(entries: &[RevokedCert<Raw>]) -> bool
+    ensures { result ≡ list_any (λ e. has (id_ce 29) (members e.crl_entry_extensions)) entries.now }
+{
+    entries.iter().any(has_issuer)
+}
+
+fn have_early_general_date(entries: &[RevokedCert<Raw>]) -> bool
+    ensures { result ≡ list_any (λ e. is_early_general e.revocation_date) entries.now }
+{
+    entries
+        .iter()
+        .any(|entry| is_early_general(entry.revocation_date))
+}
+
+fn is_next_early_general(next: Option<Time>) -> bool
+    ensures { result ≡ passes is_early_general next }
+{
+    passes!(next, next => is_early_general(next))
+}
+
+fn is_next_before(next: Option<Time>, this: Time) -> bool
+    ensures { result ≡ passes (λ next. is_before next this) next }
+{
+    passes!(next, next => is_before(next, this))
+}
+
+impl Group<CertificateList<Raw>, CrlFacts> for CrlFieldRule {
+    ghost use Rattle.x509_lint.specs.CrlField.{crl_field_sentence};
+    ghost use Rattle.x509_lint.specs.declared.rule.Rule.TheVariants.{CrlField};
+
+    ghost sentence = { crl_field_sentence };
+
+    ghost as_rule = { λ rule. CrlField rule };
+
+    fn is_broken(&self, crl: &CertificateList<Raw>, facts: &CrlFacts) -> bool {
+        let part = &crl.tbs_cert_list;
+        match self {
+            CrlFieldRule::SignatureAlgorithmsDiffer => facts.algorithms_differ,
+            CrlFieldRule::ExtensionsWithoutV2 => (part.crl_extensions.is_some()
+                || have_extensions(part.entries()))
+                && !is_v2(&part.version),
+            CrlFieldRule::VersionNotV2 => is_not_v2(&part.version),
+            CrlFieldRule::IssuerEmpty => is_empty_name(&part.issuer),
+            CrlFieldRule::IssuerRdnEmpty => has_empty_rdn(&part.issuer),
+            CrlFieldRule::IssuerCountryNameInvalid => has_no_country(&part.issuer),
+            CrlFieldRule::IssuerTextType => has_faulty_text(TextFault::OtherType, &part.issuer),
+            CrlFieldRule::IssuerTextOldType => has_faulty_text(TextFault::OldType, &part.issuer),
+            CrlFieldRule::IssuerTextCharacters => has_faulty_text(
+                TextFault::OtherCharacter,
+                &part.issuer,
+            ),
+            CrlFieldRule::IssuerTextSize => has_faulty_text(TextFault::Size, &part.issuer),
+            CrlFieldRule::ThisUpdateNotUtcTime => is_early_general(part.this_update),
+            CrlFieldRule::NextUpdateAbsent => !part.next_update.is_some(),
+            CrlFieldRule::NextUpdateNotUtcTime => is_next_early_general(part.next_update),
+            CrlFieldRule::NextUpdateBeforeThisUpdate => is_next_before(
+                part.next_update,
+                part.this_update,
+            ),
+            CrlFieldRule::RevokedCertificatesEmpty => is_empty_sequence(&part.revoked_certificates),
+            CrlFieldRule::SerialNumberRepeated => !facts.are_serials_distinct
+                && !has_certificate_issuer(part.entries()),
+            CrlFieldRule::RevocationDateNotUtcTime => have_early_general_date(part.entries()),
+            CrlFieldRule::ExtensionsEmpty => is_empty_sequence(&part.crl_extensions),
+            CrlFieldRule::ExtensionRepeated => facts.is_repeated,
+        }
+    }
+
+    fn to_rule(&self) -> Rule {
+        Rule::CrlField(*self)
+    }
+}
+
+/// Rules on the lists of extensions that a CRL's entries have (RFC 5280 5.3).
+#[derive(Clone, Copy, Debug, PartialEq, Eq)]
+pub enum CrlEntryListRule {
     /// The list of an entry's extensions is there, and has none (RFC 5280 5.3, error).
     EntryExtensionsEmpty,
 
@@ -144,65 +324,39 @@ pub enum CrlFieldRule {
     EntryExtensionRepeated,
 }
 
-pub(crate) const CRL_FIELD_RULES: [CrlFieldRule; 28] = [
-    CrlFieldRule::SignatureAlgorithmsDiffer,
-    CrlFieldRule::ExtensionsWithoutV2,
-    CrlFieldRule::VersionNotV2,
-    CrlFieldRule::IssuerEmpty,
-    CrlFieldRule::IssuerRdnEmpty,
-    CrlFieldRule::IssuerCountryNameInvalid,
-    CrlFieldRule::IssuerTextType,
-    CrlFieldRule::IssuerTextOldType,
-    CrlFieldRule::IssuerTextCharacters,
-    CrlFieldRule::IssuerTextSize,
-    CrlFieldRule::ThisUpdateNotUtcTime,
-    CrlFieldRule::NextUpdateAbsent,
-    CrlFieldRule::NextUpdateNotUtcTime,
-    CrlFieldRule::NextUpdateBeforeThisUpdate,
-    CrlFieldRule::RevokedCertificatesEmpty,
-    CrlFieldRule::SerialNumberRepeated,
-    CrlFieldRule::RevocationDateNotUtcTime,
-    CrlFieldRule::ExtensionsEmpty,
-    CrlFieldRule::ExtensionRepeated,
-    CrlFieldRule::ExtensionMalformed(CrlExtensionKind::AuthorityKeyIdentifier),
-    CrlFieldRule::ExtensionMalformed(CrlExtensionKind::IssuerAltName),
-    CrlFieldRule::ExtensionMalformed(CrlExtensionKind::CrlNumber),
-    CrlFieldRule::ExtensionMalformed(CrlExtensionKind::DeltaCrlIndicator),
-    CrlFieldRule::ExtensionMalformed(CrlExtensionKind::IssuingDistributionPoint),
-    CrlFieldRule::ExtensionMalformed(CrlExtensionKind::FreshestCrl),
-    CrlFieldRule::ExtensionMalformed(CrlExtensionKind::AuthorityInfoAccess),
-    CrlFieldRule::EntryExtensionsEmpty,
-    CrlFieldRule::EntryExtensionRepeated,
-];
+/// The rules in their order, with how each is told.
+pub(crate) static CRL_ENTRY_LIST_RULES: [Told<CrlEntryListRule>; 2] = rules! { CrlEntryListRule;
+    EntryExtensionsEmpty => must("entry_extensions_empty", "5.3", "tbsCertList.revokedCertificates.crlEntryExtensions"),
+    EntryExtensionRepeated => must("entry_extension_repeated", "5.3", "tbsCertList.revokedCertificates.crlEntryExtensions"),
+};
 
-impl CrlFieldRule {
+impl CrlEntryListRule {
     /// How bad it is to break the rule, its name, its section, and its place.
     pub fn entry(self) -> Entry
-        ensures { Says result (crl_field_wording self) }
+        ensures { Says result (grammar.crl_entry_list_sentence self).wording }
     {
-        told! { self: CrlFieldRule;
-            SignatureAlgorithmsDiffer => must("signature_algorithms_differ", "5.1.1.2", "signatureAlgorithm"),
-            ExtensionsWithoutV2 => must("extensions_without_v2", "5.1.2.1", "tbsCertList.version"),
-            VersionNotV2 => must("version_not_v2", "5.1.2.1", "tbsCertList.version"),
-            IssuerEmpty => must("issuer_empty", "5.1.2.3", "tbsCertList.issuer"),
-            IssuerRdnEmpty => must("issuer_rdn_empty", "5.1.2.3", "tbsCertList.issuer"),
-            IssuerCountryNameInvalid => must("issuer_country_name_invalid", "A.1", "tbsCertList.issuer"),
-            IssuerTextType => must("issuer_text_type", "A.1", "tbsCertList.issuer"),
-            IssuerTextOldType => should("issuer_text_old_type", "5.1.2.3", "tbsCertList.issuer"),
-            IssuerTextCharacters => must("issuer_text_characters", "5.1.2.3", "tbsCertList.issuer"),
-            IssuerTextSize => must("issuer_text_size", "A.1", "tbsCertList.issuer"),
-            ThisUpdateNotUtcTime => must("this_update_not_utc_time", "5.1.2.4", "tbsCertList.thisUpdate"),
-            NextUpdateAbsent => must("next_update_absent", "5.1.2.5", "tbsCertList.nextUpdate"),
-            NextUpdateNotUtcTime => must("next_update_not_utc_time", "5.1.2.5", "tbsCertList.nextUpdate"),
-            NextUpdateBeforeThisUpdate => must("next_update_before_this_update", "5.1.2.5", "tbsCertList.nextUpdate"),
-            RevokedCertificatesEmpty => must("revoked_certificates_empty", "5.1.2.6", "tbsCertList.revokedCertificates"),
-            SerialNumberRepeated => must("serial_number_repeated", "5.1.2.6", "tbsCertList.revokedCertificates.userCertificate"),
-            RevocationDateNotUtcTime => must("revocation_date_not_utc_time", "5.1.2.6", "tbsCertList.revokedCertificates.revocationDate"),
-            ExtensionsEmpty => must("extensions_empty", "5.1.2.7", "tbsCertList.crlExtensions"),
-            ExtensionRepeated => must("extension_repeated", "5.2", "tbsCertList.crlExtensions"),
-            ExtensionMalformed(kind) => must("extension_malformed", "5.2", kind.place()),
-            EntryExtensionsEmpty => must("entry_extensions_empty", "5.3", "tbsCertList.revokedCertificates.crlEntryExtensions"),
-            EntryExtensionRepeated => must("entry_extension_repeated", "5.3", "tbsCertList.revokedCertificates.crlEntryExtensions"),
+        CRL_ENTRY_LIST_RULES[self as usize].entry
+    }
+}
+
+impl Group<CertificateList<Raw>, CrlFacts> for CrlEntryListRule {
+    ghost use Rattle.x509_lint.specs.CrlField.{crl_entry_list_sentence};
+    ghost use Rattle.x509_lint.specs.declared.rule.Rule.TheVariants.{CrlEntryList};
+
+    ghost sentence = { crl_entry_list_sentence };
+
+    ghost as_rule = { λ rule. CrlEntryList rule };
+
+    fn is_broken(&self, crl: &CertificateList<Raw>, facts: &CrlFacts) -> bool {
+        match self {
+            CrlEntryListRule::EntryExtensionsEmpty => have_empty_extensions(
+                crl.tbs_cert_list.entries(),
+            ),
+            CrlEntryListRule::EntryExtensionRepeated => !facts.are_entries_distinct,
         }
+    }
+
+    fn to_rule(&self) -> Rule {
+        Rule::CrlEntryList(*self)
     }
 }

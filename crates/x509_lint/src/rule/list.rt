@@ -1,12 +1,17 @@
 //! Rules on the extensions of a certificate as a list (RFC 5280 4.1.2.9, 4.2).
 
 ghost use Rattle.std.specs.Prelude.{◌≡◌};
-ghost use Rattle.x509_lint.specs.List.{extension_place, list_wording};
+ghost use Rattle.x509_lint.specs.List as grammar;
 ghost use Rattle.x509_lint.specs.Seen.{extension_oid};
 ghost use Rattle.x509_lint.specs.Wording.{Says};
 
-use crate::entry::{Entry, must};
-use crate::told;
+use crate::entry::{Entry, rules};
+use crate::extensions::is_empty_list;
+use crate::facts::CertificateFacts;
+use crate::group::{Group, Told};
+use crate::rule::Rule;
+use x509_base::Raw;
+use x509_cert::certificate::CertificateInner;
 use x509_der::{AssociatedOid, ObjectIdentifier};
 use x509_ext::pkix::{
     AuthorityInfoAccessSyntax, AuthorityKeyIdentifier, BasicConstraints, CertificatePolicies,
@@ -73,63 +78,36 @@ pub enum ExtensionKind {
     FreshestCrl,
 }
 
-/// The place of an extension, behind that of its list.
-macro_rules! extension_place {
-    ($list:literal, $kind:expr) => {
-        match $kind {
-            ExtensionKind::AuthorityKeyIdentifier => concat!($list, "authorityKeyIdentifier"),
-            ExtensionKind::SubjectKeyIdentifier => concat!($list, "subjectKeyIdentifier"),
-            ExtensionKind::KeyUsage => concat!($list, "keyUsage"),
-            ExtensionKind::ExtendedKeyUsage => concat!($list, "extKeyUsage"),
-            ExtensionKind::PrivateKeyUsagePeriod => concat!($list, "privateKeyUsagePeriod"),
-            ExtensionKind::BasicConstraints => concat!($list, "basicConstraints"),
-            ExtensionKind::SubjectAltName => concat!($list, "subjectAltName"),
-            ExtensionKind::IssuerAltName => concat!($list, "issuerAltName"),
-            ExtensionKind::SubjectDirectoryAttributes => concat!($list, "subjectDirectoryAttributes"),
-            ExtensionKind::NameConstraints => concat!($list, "nameConstraints"),
-            ExtensionKind::AuthorityInfoAccess => concat!($list, "authorityInfoAccess"),
-            ExtensionKind::SubjectInfoAccess => concat!($list, "subjectInfoAccess"),
-            ExtensionKind::CertificatePolicies => concat!($list, "certificatePolicies"),
-            ExtensionKind::PolicyMappings => concat!($list, "policyMappings"),
-            ExtensionKind::PolicyConstraints => concat!($list, "policyConstraints"),
-            ExtensionKind::InhibitAnyPolicy => concat!($list, "inhibitAnyPolicy"),
-            ExtensionKind::CrlDistributionPoints => concat!($list, "cRLDistributionPoints"),
-            ExtensionKind::FreshestCrl => concat!($list, "freshestCRL"),
+/// The table of rules that an extension of a type is malformed, of each type: the place of their list is given.
+macro_rules! malformed {
+    ($list:literal) => {
+        $crate::entry::rules! { ExtensionKind;
+            AuthorityKeyIdentifier => must("extension_malformed", "4.2", concat!($list, "authorityKeyIdentifier")),
+            SubjectKeyIdentifier => must("extension_malformed", "4.2", concat!($list, "subjectKeyIdentifier")),
+            KeyUsage => must("extension_malformed", "4.2", concat!($list, "keyUsage")),
+            ExtendedKeyUsage => must("extension_malformed", "4.2", concat!($list, "extKeyUsage")),
+            PrivateKeyUsagePeriod => must("extension_malformed", "4.2", concat!($list, "privateKeyUsagePeriod")),
+            BasicConstraints => must("extension_malformed", "4.2", concat!($list, "basicConstraints")),
+            SubjectAltName => must("extension_malformed", "4.2", concat!($list, "subjectAltName")),
+            IssuerAltName => must("extension_malformed", "4.2", concat!($list, "issuerAltName")),
+            SubjectDirectoryAttributes => must("extension_malformed", "4.2", concat!($list, "subjectDirectoryAttributes")),
+            NameConstraints => must("extension_malformed", "4.2", concat!($list, "nameConstraints")),
+            AuthorityInfoAccess => must("extension_malformed", "4.2", concat!($list, "authorityInfoAccess")),
+            SubjectInfoAccess => must("extension_malformed", "4.2", concat!($list, "subjectInfoAccess")),
+            CertificatePolicies => must("extension_malformed", "4.2", concat!($list, "certificatePolicies")),
+            PolicyMappings => must("extension_malformed", "4.2", concat!($list, "policyMappings")),
+            PolicyConstraints => must("extension_malformed", "4.2", concat!($list, "policyConstraints")),
+            InhibitAnyPolicy => must("extension_malformed", "4.2", concat!($list, "inhibitAnyPolicy")),
+            CrlDistributionPoints => must("extension_malformed", "4.2", concat!($list, "cRLDistributionPoints")),
+            FreshestCrl => must("extension_malformed", "4.2", concat!($list, "freshestCRL")),
         }
     };
 }
 
-pub(crate) use extension_place;
+pub(crate) use malformed;
 
-/// Rules of a group; in the place of the semicolon, that an extension can't be read, of each type.
-macro_rules! with_malformed {
-    ($group:ident: $($before:expr),+; $($behind:expr),*) => {
-        [
-            $($before,)+
-            $group::ExtensionMalformed(ExtensionKind::AuthorityKeyIdentifier),
-            $group::ExtensionMalformed(ExtensionKind::SubjectKeyIdentifier),
-            $group::ExtensionMalformed(ExtensionKind::KeyUsage),
-            $group::ExtensionMalformed(ExtensionKind::ExtendedKeyUsage),
-            $group::ExtensionMalformed(ExtensionKind::PrivateKeyUsagePeriod),
-            $group::ExtensionMalformed(ExtensionKind::BasicConstraints),
-            $group::ExtensionMalformed(ExtensionKind::SubjectAltName),
-            $group::ExtensionMalformed(ExtensionKind::IssuerAltName),
-            $group::ExtensionMalformed(ExtensionKind::SubjectDirectoryAttributes),
-            $group::ExtensionMalformed(ExtensionKind::NameConstraints),
-            $group::ExtensionMalformed(ExtensionKind::AuthorityInfoAccess),
-            $group::ExtensionMalformed(ExtensionKind::SubjectInfoAccess),
-            $group::ExtensionMalformed(ExtensionKind::CertificatePolicies),
-            $group::ExtensionMalformed(ExtensionKind::PolicyMappings),
-            $group::ExtensionMalformed(ExtensionKind::PolicyConstraints),
-            $group::ExtensionMalformed(ExtensionKind::InhibitAnyPolicy),
-            $group::ExtensionMalformed(ExtensionKind::CrlDistributionPoints),
-            $group::ExtensionMalformed(ExtensionKind::FreshestCrl),
-            $($behind,)*
-        ]
-    };
-}
-
-pub(crate) use with_malformed;
+/// Of each type of extension, that the octets of one of it aren't an encoding of the type.
+pub(crate) static MALFORMED: [Told<ExtensionKind>; 18] = malformed!("tbsCertificate.extensions.");
 
 impl ExtensionKind {
     /// The OID of the type.
@@ -158,11 +136,28 @@ impl ExtensionKind {
         }
     }
 
-    /// Its place in a certificate.
-    fn place(self) -> &'static str
-        ensures { result.now ≡ extension_place self }
+    /// How the rule is told that an extension of the type is malformed.
+    pub(crate) fn malformed(self) -> Entry
+        ensures { Says result (grammar.malformed_sentence self).wording }
     {
-        extension_place!("tbsCertificate.extensions.", self)
+        MALFORMED[self as usize].entry
+    }
+}
+
+impl Group<CertificateInner<Raw>, CertificateFacts> for ExtensionKind {
+    ghost use Rattle.x509_lint.specs.List.{malformed_sentence};
+    ghost use Rattle.x509_lint.specs.declared.rule.Rule.TheVariants.{ExtensionMalformed};
+
+    ghost sentence = { malformed_sentence };
+
+    ghost as_rule = { λ kind. ExtensionMalformed kind };
+
+    fn is_broken(&self, _certificate: &CertificateInner<Raw>, facts: &CertificateFacts) -> bool {
+        !facts.read.is_read(*self)
+    }
+
+    fn to_rule(&self) -> Rule {
+        Rule::ExtensionMalformed(*self)
     }
 }
 
@@ -174,27 +169,39 @@ pub enum ListRule {
 
     /// Two extensions have one OID (RFC 5280 4.2, error).
     ExtensionRepeated,
-
-    /// The octets of an extension of the type aren't an encoding of the type that RFC 5280 has for its OID (RFC 5280 4.2, error). That isn't told of
-    /// octets that have what RFC 5280 allows and this library's decoder doesn't hold: an x400Address, and an OID of more than 39 octets or with a
-    /// number of 2^32 or more.
-    ExtensionMalformed(ExtensionKind),
 }
 
-pub(crate) const LIST_RULES: [ListRule; 20] = with_malformed! { ListRule:
-    ListRule::ExtensionsEmpty,
-    ListRule::ExtensionRepeated;
+/// The rules in their order, with how each is told.
+pub(crate) static LIST_RULES: [Told<ListRule>; 2] = rules! { ListRule;
+    ExtensionsEmpty => must("extensions_empty", "4.1.2.9", "tbsCertificate.extensions"),
+    ExtensionRepeated => must("extension_repeated", "4.2", "tbsCertificate.extensions"),
 };
 
 impl ListRule {
     /// How bad it is to break the rule, its name, its section, and its place.
     pub fn entry(self) -> Entry
-        ensures { Says result (list_wording self) }
+        ensures { Says result (grammar.list_sentence self).wording }
     {
-        told! { self: ListRule;
-            ExtensionsEmpty => must("extensions_empty", "4.1.2.9", "tbsCertificate.extensions"),
-            ExtensionRepeated => must("extension_repeated", "4.2", "tbsCertificate.extensions"),
-            ExtensionMalformed(kind) => must("extension_malformed", "4.2", kind.place()),
+        LIST_RULES[self as usize].entry
+    }
+}
+
+impl Group<CertificateInner<Raw>, CertificateFacts> for ListRule {
+    ghost use Rattle.x509_lint.specs.List.{list_sentence};
+    ghost use Rattle.x509_lint.specs.declared.rule.Rule.TheVariants.{ExtensionList};
+
+    ghost sentence = { list_sentence };
+
+    ghost as_rule = { λ rule. ExtensionList rule };
+
+    fn is_broken(&self, certificate: &CertificateInner<Raw>, facts: &CertificateFacts) -> bool {
+        match self {
+            ListRule::ExtensionsEmpty => is_empty_list(certificate.tbs_certificate().extensions()),
+            ListRule::ExtensionRepeated => facts.is_repeated,
         }
+    }
+
+    fn to_rule(&self) -> Rule {
+        Rule::ExtensionList(*self)
     }
 }

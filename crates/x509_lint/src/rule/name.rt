@@ -1,10 +1,19 @@
 //! Rules on the issuer and the subject of a certificate (RFC 5280 4.1.2.4, 4.1.2.6).
 
-ghost use Rattle.x509_lint.specs.Name.{name_wording};
+ghost use Rattle.x509_lint.specs.Name as grammar;
 ghost use Rattle.x509_lint.specs.Wording.{Says};
 
-use crate::entry::{Entry, must, should};
-use crate::told;
+use crate::entry::{Entry, rules};
+use crate::extensions::has_critical;
+use crate::facts::CertificateFacts;
+use crate::group::{Group, Told};
+use crate::names::{has_empty_rdn, has_no_country, is_empty_name};
+use crate::rule::Rule;
+use crate::texts::{TextFault, has_faulty_text};
+use x509_base::Raw;
+use x509_cert::certificate::CertificateInner;
+use x509_ext::members;
+use x509_ext::pkix::SubjectAltName;
 
 /// Rules on the issuer and the subject of a certificate (RFC 5280 4.1.2.4, 4.1.2.6).
 #[derive(Clone, Copy, Debug, PartialEq, Eq)]
@@ -49,41 +58,67 @@ pub enum NameRule {
     SubjectEmptyWithoutCriticalAltName,
 }
 
-pub(crate) const NAME_RULES: [NameRule; 13] = [
-    NameRule::IssuerRdnEmpty,
-    NameRule::IssuerCountryNameInvalid,
-    NameRule::IssuerTextType,
-    NameRule::IssuerTextOldType,
-    NameRule::IssuerTextCharacters,
-    NameRule::IssuerTextSize,
-    NameRule::SubjectRdnEmpty,
-    NameRule::SubjectCountryNameInvalid,
-    NameRule::SubjectTextType,
-    NameRule::SubjectTextOldType,
-    NameRule::SubjectTextCharacters,
-    NameRule::SubjectTextSize,
-    NameRule::SubjectEmptyWithoutCriticalAltName,
-];
+/// The rules in their order, with how each is told.
+pub(crate) static NAME_RULES: [Told<NameRule>; 13] = rules! { NameRule;
+    IssuerRdnEmpty => must("issuer_rdn_empty", "4.1.2.4", "tbsCertificate.issuer"),
+    IssuerCountryNameInvalid => must("issuer_country_name_invalid", "A.1", "tbsCertificate.issuer"),
+    IssuerTextType => must("issuer_text_type", "A.1", "tbsCertificate.issuer"),
+    IssuerTextOldType => should("issuer_text_old_type", "4.1.2.4", "tbsCertificate.issuer"),
+    IssuerTextCharacters => must("issuer_text_characters", "4.1.2.4", "tbsCertificate.issuer"),
+    IssuerTextSize => must("issuer_text_size", "A.1", "tbsCertificate.issuer"),
+    SubjectRdnEmpty => must("subject_rdn_empty", "4.1.2.6", "tbsCertificate.subject"),
+    SubjectCountryNameInvalid => must("subject_country_name_invalid", "A.1", "tbsCertificate.subject"),
+    SubjectTextType => must("subject_text_type", "A.1", "tbsCertificate.subject"),
+    SubjectTextOldType => should("subject_text_old_type", "4.1.2.6", "tbsCertificate.subject"),
+    SubjectTextCharacters => must("subject_text_characters", "4.1.2.6", "tbsCertificate.subject"),
+    SubjectTextSize => must("subject_text_size", "A.1", "tbsCertificate.subject"),
+    SubjectEmptyWithoutCriticalAltName => must("subject_empty_without_critical_alt_name", "4.1.2.6", "tbsCertificate.subject"),
+};
 
 impl NameRule {
     /// How bad it is to break the rule, its name, its section, and its place.
     pub fn entry(self) -> Entry
-        ensures { Says result (name_wording self) }
+        ensures { Says result (grammar.name_sentence self).wording }
     {
-        told! { self: NameRule;
-            IssuerRdnEmpty => must("issuer_rdn_empty", "4.1.2.4", "tbsCertificate.issuer"),
-            IssuerCountryNameInvalid => must("issuer_country_name_invalid", "A.1", "tbsCertificate.issuer"),
-            IssuerTextType => must("issuer_text_type", "A.1", "tbsCertificate.issuer"),
-            IssuerTextOldType => should("issuer_text_old_type", "4.1.2.4", "tbsCertificate.issuer"),
-            IssuerTextCharacters => must("issuer_text_characters", "4.1.2.4", "tbsCertificate.issuer"),
-            IssuerTextSize => must("issuer_text_size", "A.1", "tbsCertificate.issuer"),
-            SubjectRdnEmpty => must("subject_rdn_empty", "4.1.2.6", "tbsCertificate.subject"),
-            SubjectCountryNameInvalid => must("subject_country_name_invalid", "A.1", "tbsCertificate.subject"),
-            SubjectTextType => must("subject_text_type", "A.1", "tbsCertificate.subject"),
-            SubjectTextOldType => should("subject_text_old_type", "4.1.2.6", "tbsCertificate.subject"),
-            SubjectTextCharacters => must("subject_text_characters", "4.1.2.6", "tbsCertificate.subject"),
-            SubjectTextSize => must("subject_text_size", "A.1", "tbsCertificate.subject"),
-            SubjectEmptyWithoutCriticalAltName => must("subject_empty_without_critical_alt_name", "4.1.2.6", "tbsCertificate.subject"),
+        NAME_RULES[self as usize].entry
+    }
+}
+
+impl Group<CertificateInner<Raw>, CertificateFacts> for NameRule {
+    ghost use Rattle.x509_lint.specs.Name.{name_sentence};
+    ghost use Rattle.x509_lint.specs.declared.rule.Rule.TheVariants.{Name};
+
+    ghost sentence = { name_sentence };
+
+    ghost as_rule = { λ rule. Name rule };
+
+    fn is_broken(&self, certificate: &CertificateInner<Raw>, _facts: &CertificateFacts) -> bool {
+        let part = certificate.tbs_certificate();
+        match self {
+            NameRule::IssuerRdnEmpty => has_empty_rdn(part.issuer()),
+            NameRule::IssuerCountryNameInvalid => has_no_country(part.issuer()),
+            NameRule::IssuerTextType => has_faulty_text(TextFault::OtherType, part.issuer()),
+            NameRule::IssuerTextOldType => has_faulty_text(TextFault::OldType, part.issuer()),
+            NameRule::IssuerTextCharacters => has_faulty_text(
+                TextFault::OtherCharacter,
+                part.issuer(),
+            ),
+            NameRule::IssuerTextSize => has_faulty_text(TextFault::Size, part.issuer()),
+            NameRule::SubjectRdnEmpty => has_empty_rdn(part.subject()),
+            NameRule::SubjectCountryNameInvalid => has_no_country(part.subject()),
+            NameRule::SubjectTextType => has_faulty_text(TextFault::OtherType, part.subject()),
+            NameRule::SubjectTextOldType => has_faulty_text(TextFault::OldType, part.subject()),
+            NameRule::SubjectTextCharacters => has_faulty_text(
+                TextFault::OtherCharacter,
+                part.subject(),
+            ),
+            NameRule::SubjectTextSize => has_faulty_text(TextFault::Size, part.subject()),
+            NameRule::SubjectEmptyWithoutCriticalAltName => is_empty_name(part.subject())
+                && !has_critical::<SubjectAltName>(members(part.extensions())),
         }
+    }
+
+    fn to_rule(&self) -> Rule {
+        Rule::Name(*self)
     }
 }

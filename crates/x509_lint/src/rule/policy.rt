@@ -1,10 +1,24 @@
 //! Rules on certificate policies, policy mappings and policy constraints (RFC 5280 4.2.1.4, 4.2.1.5, 4.2.1.11).
 
-ghost use Rattle.x509_lint.specs.Policy.{policy_wording};
+ghost use Rattle.std.specs.List.{list_any};
+ghost use Rattle.std.specs.Prelude.{◌≡◌, ◌&&◌, is_some, not};
+ghost use Rattle.x509_lint.specs.Policy as grammar;
 ghost use Rattle.x509_lint.specs.Wording.{Says};
+ghost use Rattle.x509_lint.specs.Words.{is_empty, passes};
 
-use crate::entry::{Entry, must, must_of, should, should_of};
-use crate::told;
+use crate::entry::{Entry, rules};
+use crate::extensions::{extensions_of, has, is_empty_sequence};
+use crate::group::{Group, Told};
+use crate::notices::USER_NOTICE;
+use crate::passes;
+use crate::rule::Rule;
+use crate::skip_certs::AnyPolicyConstraints;
+use crate::values::PolicyValues;
+use x509_base::Raw;
+use x509_cert::certificate::CertificateInner;
+use x509_der::{ObjectIdentifier, oid};
+use x509_ext::pkix::certpolicy::{PolicyInformation, PolicyQualifierInfo};
+use x509_ext::pkix::{CertificatePolicies, PolicyMapping};
 
 /// Rules on certificate policies, policy mappings and policy constraints (RFC 5280 4.2.1.4, 4.2.1.5, 4.2.1.11).
 #[derive(Clone, Copy, Debug, PartialEq, Eq)]
@@ -55,45 +69,142 @@ pub enum PolicyRule {
     PolicyConstraintsEmpty,
 }
 
-pub(crate) const POLICY_RULES: [PolicyRule; 15] = [
-    PolicyRule::CertificatePoliciesEmpty,
-    PolicyRule::CertificatePolicyRepeated,
-    PolicyRule::PolicyQualifiersEmpty,
-    PolicyRule::AnyPolicyQualifierInvalid,
-    PolicyRule::ExplicitTextTooLong,
-    PolicyRule::ExplicitTextEmpty,
-    PolicyRule::ExplicitTextType,
-    PolicyRule::ExplicitTextNotUtf8String,
-    PolicyRule::ExplicitTextControl,
-    PolicyRule::NoticeReferencePresent,
-    PolicyRule::ExplicitTextNotNormalized,
-    PolicyRule::PolicyMappingsEmpty,
-    PolicyRule::PolicyMappingAnyPolicy,
-    PolicyRule::PolicyMappingNotAsserted,
-    PolicyRule::PolicyConstraintsEmpty,
-];
+/// The rules in their order, with how each is told.
+pub(crate) static POLICY_RULES: [Told<PolicyRule>; 15] = rules! { PolicyRule;
+    CertificatePoliciesEmpty => must("certificate_policies_empty", "4.2.1.4", "tbsCertificate.extensions.certificatePolicies"),
+    CertificatePolicyRepeated => must("certificate_policy_repeated", "4.2.1.4", "tbsCertificate.extensions.certificatePolicies"),
+    PolicyQualifiersEmpty => must("policy_qualifiers_empty", "4.2.1.4", "tbsCertificate.extensions.certificatePolicies"),
+    AnyPolicyQualifierInvalid => must("any_policy_qualifier_invalid", "4.2.1.4", "tbsCertificate.extensions.certificatePolicies"),
+    ExplicitTextTooLong => must("explicit_text_too_long", "4.2.1.4", "tbsCertificate.extensions.certificatePolicies"),
+    ExplicitTextEmpty => must("explicit_text_empty", "4.2.1.4", "tbsCertificate.extensions.certificatePolicies"),
+    ExplicitTextType => must_of("RFC 6818", "explicit_text_type", "3", "tbsCertificate.extensions.certificatePolicies"),
+    ExplicitTextNotUtf8String => should_of("RFC 6818", "explicit_text_not_utf8_string", "3", "tbsCertificate.extensions.certificatePolicies"),
+    ExplicitTextControl => should("explicit_text_control", "4.2.1.4", "tbsCertificate.extensions.certificatePolicies"),
+    NoticeReferencePresent => should("notice_reference_present", "4.2.1.4", "tbsCertificate.extensions.certificatePolicies"),
+    ExplicitTextNotNormalized => should("explicit_text_not_normalized", "4.2.1.4", "tbsCertificate.extensions.certificatePolicies"),
+    PolicyMappingsEmpty => must("policy_mappings_empty", "4.2.1.5", "tbsCertificate.extensions.policyMappings"),
+    PolicyMappingAnyPolicy => must("policy_mapping_any_policy", "4.2.1.5", "tbsCertificate.extensions.policyMappings"),
+    PolicyMappingNotAsserted => should("policy_mapping_not_asserted", "4.2.1.5", "tbsCertificate.extensions.policyMappings"),
+    PolicyConstraintsEmpty => must("policy_constraints_empty", "4.2.1.11", "tbsCertificate.extensions.policyConstraints"),
+};
 
 impl PolicyRule {
     /// How bad it is to break the rule, its name, its section, and its place.
     pub fn entry(self) -> Entry
-        ensures { Says result (policy_wording self) }
+        ensures { Says result (grammar.policy_sentence self).wording }
     {
-        told! { self: PolicyRule;
-            CertificatePoliciesEmpty => must("certificate_policies_empty", "4.2.1.4", "tbsCertificate.extensions.certificatePolicies"),
-            CertificatePolicyRepeated => must("certificate_policy_repeated", "4.2.1.4", "tbsCertificate.extensions.certificatePolicies"),
-            PolicyQualifiersEmpty => must("policy_qualifiers_empty", "4.2.1.4", "tbsCertificate.extensions.certificatePolicies"),
-            AnyPolicyQualifierInvalid => must("any_policy_qualifier_invalid", "4.2.1.4", "tbsCertificate.extensions.certificatePolicies"),
-            ExplicitTextTooLong => must("explicit_text_too_long", "4.2.1.4", "tbsCertificate.extensions.certificatePolicies"),
-            ExplicitTextEmpty => must("explicit_text_empty", "4.2.1.4", "tbsCertificate.extensions.certificatePolicies"),
-            ExplicitTextType => must_of("RFC 6818", "explicit_text_type", "3", "tbsCertificate.extensions.certificatePolicies"),
-            ExplicitTextNotUtf8String => should_of("RFC 6818", "explicit_text_not_utf8_string", "3", "tbsCertificate.extensions.certificatePolicies"),
-            ExplicitTextControl => should("explicit_text_control", "4.2.1.4", "tbsCertificate.extensions.certificatePolicies"),
-            NoticeReferencePresent => should("notice_reference_present", "4.2.1.4", "tbsCertificate.extensions.certificatePolicies"),
-            ExplicitTextNotNormalized => should("explicit_text_not_normalized", "4.2.1.4", "tbsCertificate.extensions.certificatePolicies"),
-            PolicyMappingsEmpty => must("policy_mappings_empty", "4.2.1.5", "tbsCertificate.extensions.policyMappings"),
-            PolicyMappingAnyPolicy => must("policy_mapping_any_policy", "4.2.1.5", "tbsCertificate.extensions.policyMappings"),
-            PolicyMappingNotAsserted => should("policy_mapping_not_asserted", "4.2.1.5", "tbsCertificate.extensions.policyMappings"),
-            PolicyConstraintsEmpty => must("policy_constraints_empty", "4.2.1.11", "tbsCertificate.extensions.policyConstraints"),
+        POLICY_RULES[self as usize].entry
+    }
+}
+
+/// anyPolicy, 2.5.29.32.0 (RFC 5280 4.2.1.4).
+const ANY_POLICY: ObjectIdentifier = oid!(0x55, 0x1D, 32, 0);
+
+/// id-qt-cps, 1.3.6.1.5.5.7.2.1 (RFC 5280 4.2.1.4).
+const CPS: ObjectIdentifier = oid!(0x2B, 0x06, 0x01, 0x05, 0x05, 0x07, 2, 1);
+
+fn is_of_any_policy(mapping: &PolicyMapping) -> bool
+    ensures { result ≡ grammar.is_of_any_policy mapping.now }
+{
+    mapping.issuer_domain_policy == ANY_POLICY || mapping.subject_domain_policy == ANY_POLICY
+}
+
+fn has_any_policy(mappings: &[PolicyMapping]) -> bool
+    ensures { result ≡ list_any grammar.is_of_any_policy mappings.now }
+{
+    mappings.iter().any(is_of_any_policy)
+}
+
+fn has_empty_qualifiers(policies: &[PolicyInformation]) -> bool
+    ensures { result ≡ list_any (λ policy. passes is_empty policy.policy_qualifiers) policies.now }
+{
+    policies
+        .iter()
+        .any(|policy| is_empty_sequence(&policy.policy_qualifiers))
+}
+
+fn has_no_number(constraints: &Option<AnyPolicyConstraints>) -> bool
+    ensures { result ≡ passes (λ p. not (is_some p.require_explicit_policy) && not (is_some p.inhibit_policy_mapping)) constraints.now }
+{
+    match constraints {
+        Some(constraints) => {
+            !constraints.require_explicit_policy.is_some()
+                && !constraints.inhibit_policy_mapping.is_some()
         }
+        None => false,
+    }
+}
+
+/// Whether the certificate policies are absent, or there is one extension of the type, and it is read.
+fn are_policies_known(certificate: &CertificateInner<Raw>, values: &PolicyValues) -> bool
+    ensures { result ≡ grammar.are_policies_known certificate.now values.now }
+{
+    !has::<CertificatePolicies>(extensions_of(certificate)) || values.certificate_policies.is_some()
+}
+
+/// Whether the qualifier is neither a CPS pointer nor a user notice.
+fn is_other_qualifier(qualifier: &PolicyQualifierInfo) -> bool
+    ensures { result ≡ grammar.is_other_qualifier qualifier.now }
+{
+    qualifier.policy_qualifier_id != CPS && qualifier.policy_qualifier_id != USER_NOTICE
+}
+
+fn are_other_qualifiers(qualifiers: &[PolicyQualifierInfo]) -> bool
+    ensures { result ≡ list_any grammar.is_other_qualifier qualifiers.now }
+{
+    qualifiers.iter().any(is_other_qualifier)
+}
+
+fn is_other_policy(policy: &PolicyInformation) -> bool
+    ensures { result ≡ grammar.has_other_qualifier policy.now }
+{
+    if policy.policy_identifier != ANY_POLICY {
+        return false;
+    }
+    passes!(&policy.policy_qualifiers, qualifiers => are_other_qualifiers(qualifiers.as_slice()))
+}
+
+fn has_other_qualifier(policies: &[PolicyInformation]) -> bool
+    ensures { result ≡ list_any grammar.has_other_qualifier policies.now }
+{
+    policies.iter().any(is_other_policy)
+}
+
+impl Group<CertificateInner<Raw>, PolicyValues> for PolicyRule {
+    ghost use Rattle.x509_lint.specs.Policy.{policy_sentence};
+    ghost use Rattle.x509_lint.specs.declared.rule.Rule.TheVariants.{Policy};
+
+    ghost sentence = { policy_sentence };
+
+    ghost as_rule = { λ rule. Policy rule };
+
+    fn is_broken(&self, certificate: &CertificateInner<Raw>, values: &PolicyValues) -> bool {
+        match self {
+            PolicyRule::CertificatePoliciesEmpty =>
+                passes!(&values.certificate_policies, policies => policies.0.as_slice().is_empty()),
+            PolicyRule::CertificatePolicyRepeated => !values.are_policies_distinct,
+            PolicyRule::PolicyQualifiersEmpty =>
+                passes!(&values.certificate_policies, policies => has_empty_qualifiers(policies.0.as_slice())),
+            PolicyRule::AnyPolicyQualifierInvalid =>
+                passes!(&values.certificate_policies, policies => has_other_qualifier(policies.0.as_slice())),
+            PolicyRule::ExplicitTextTooLong => values.has_long_text,
+            PolicyRule::ExplicitTextEmpty => values.has_empty_text,
+            PolicyRule::ExplicitTextType => values.has_ia5_text,
+            PolicyRule::ExplicitTextNotUtf8String => values.has_old_text,
+            PolicyRule::ExplicitTextControl => values.has_control,
+            PolicyRule::NoticeReferencePresent => values.has_reference,
+            PolicyRule::ExplicitTextNotNormalized => values.has_unnormalized,
+            PolicyRule::PolicyMappingsEmpty =>
+                passes!(&values.policy_mappings, mappings => mappings.0.as_slice().is_empty()),
+            PolicyRule::PolicyMappingAnyPolicy =>
+                passes!(&values.policy_mappings, mappings => has_any_policy(mappings.0.as_slice())),
+            PolicyRule::PolicyMappingNotAsserted => are_policies_known(certificate, values)
+                && values.has_unasserted_mapping,
+            PolicyRule::PolicyConstraintsEmpty => has_no_number(&values.policy_constraints),
+        }
+    }
+
+    fn to_rule(&self) -> Rule {
+        Rule::Policy(*self)
     }
 }

@@ -1,13 +1,29 @@
 //! Rules on CSRs (RFC 2986 4.1, RFC 2985 5.4, RFC 5280 4.1.2.6, 4.2).
 
-ghost use Rattle.std.specs.Prelude.{◌≡◌};
-ghost use Rattle.x509_lint.specs.Request.{request_extension_place, request_wording};
+ghost use Rattle.std.specs.List.{list_any};
+ghost use Rattle.std.specs.Prelude.{◌≡◌, ◌&&◌, bytes_eq, length, nat_lt};
+ghost use Rattle.x509_lint.specs.Request as grammar;
 ghost use Rattle.x509_lint.specs.Wording.{Says};
+ghost use Rattle.x509_lint.specs.Words.{is_empty, passes};
 
-use crate::entry::{Entry, must, must_of, should, should_of};
-use crate::rule::ExtensionKind;
-use crate::rule::list::{extension_place, with_malformed};
-use crate::told;
+use crate::entry::{Entry, rules};
+use crate::extensions::has;
+use crate::group::{Group, Told};
+use crate::names::{
+    has_empty_name, has_empty_rdn, has_no_address, has_no_country, has_no_dns_name, has_no_mailbox,
+    has_no_uri, has_relative_uri, has_uri_at_other_host, is_empty_name,
+};
+use crate::passes;
+use crate::request::passwords::{PasswordFault, has_faulty_password};
+use crate::request::values::{RequestValues, requested_extensions};
+use crate::rule::list::malformed;
+use crate::rule::{ExtensionKind, Rule};
+use crate::texts::{TextFault, has_faulty_text};
+use x509_cert::request::attributes::ChallengePassword;
+use x509_cert::request::{CertReq, ExtensionReq};
+use x509_der::AssociatedOid;
+use x509_ext::pkix::SubjectAltName;
+use x509_name::attr::Attribute;
 
 /// Rules on CSRs (RFC 2986 4.1, RFC 2985 5.4, RFC 5280 4.1.2.6, 4.2).
 #[derive(Clone, Copy, Debug, PartialEq, Eq)]
@@ -62,11 +78,149 @@ pub enum RequestRule {
 
     /// Two extensions that are asked for have one OID (RFC 5280 4.2, error).
     ExtensionRepeated,
+}
 
-    /// The octets of an extension of the type that is asked for aren't an encoding of the type that RFC 5280 has for its OID, nor have
-    /// what this library's decoder doesn't hold (RFC 5280 4.2, error).
-    ExtensionMalformed(ExtensionKind),
+/// The rules in their order, with how each is told.
+pub(crate) static REQUEST_RULES: [Told<RequestRule>; 17] = rules! { RequestRule;
+    SubjectRdnEmpty => must("subject_rdn_empty", "4.1.2.6", "certificationRequestInfo.subject"),
+    SubjectCountryNameInvalid => must("subject_country_name_invalid", "A.1", "certificationRequestInfo.subject"),
+    SubjectTextType => must("subject_text_type", "A.1", "certificationRequestInfo.subject"),
+    SubjectTextOldType => should("subject_text_old_type", "4.1.2.6", "certificationRequestInfo.subject"),
+    SubjectTextCharacters => must("subject_text_characters", "4.1.2.6", "certificationRequestInfo.subject"),
+    SubjectTextSize => must("subject_text_size", "A.1", "certificationRequestInfo.subject"),
+    SubjectEmptyWithoutAltName => must("subject_empty_without_alt_name", "4.1.2.6", "certificationRequestInfo.subject"),
+    AttributeRepeated => should_of("RFC 2986", "attribute_repeated", "4.1", "certificationRequestInfo.attributes"),
+    AttributeValuesEmpty => must_of("RFC 2986", "attribute_values_empty", "4.1", "certificationRequestInfo.attributes"),
+    ChallengePasswordValues => must_of("RFC 2985", "challenge_password_several_values", "5.4.1", "certificationRequestInfo.attributes.challengePassword"),
+    ChallengePasswordMalformed => must_of("RFC 2985", "challenge_password_malformed", "5.4.1", "certificationRequestInfo.attributes.challengePassword"),
+    ChallengePasswordSize => must_of("RFC 2985", "challenge_password_size", "5.4.1", "certificationRequestInfo.attributes.challengePassword"),
+    ChallengePasswordType => should_of("RFC 2985", "challenge_password_type", "5.4.1", "certificationRequestInfo.attributes.challengePassword"),
+    ExtensionRequestValues => must_of("RFC 2985", "extension_request_several_values", "5.4.2", "certificationRequestInfo.attributes.extensionRequest"),
+    ExtensionRequestMalformed => must_of("RFC 2985", "extension_request_malformed", "5.4.2", "certificationRequestInfo.attributes.extensionRequest"),
+    ExtensionsEmpty => must("extensions_empty", "4.1.2.9", "certificationRequestInfo.attributes.extensionRequest"),
+    ExtensionRepeated => must("extension_repeated", "4.2", "certificationRequestInfo.attributes.extensionRequest"),
+};
 
+impl RequestRule {
+    /// How bad it is to break the rule, its name, its section, and its place.
+    pub fn entry(self) -> Entry
+        ensures { Says result (grammar.request_sentence self).wording }
+    {
+        REQUEST_RULES[self as usize].entry
+    }
+}
+
+fn has_no_values(attributes: &[Attribute]) -> bool
+    ensures { result ≡ list_any (λ a. is_empty a.values) attributes.now }
+{
+    attributes
+        .iter()
+        .any(|attribute| attribute.values.as_slice().is_empty())
+}
+
+fn is_of_several<T: AssociatedOid>(attribute: &Attribute) -> bool
+    ensures { result ≡ (bytes_eq attribute.now.oid T.OID && nat_lt 1 (length attribute.now.values)) }
+{
+    attribute.oid == T::OID && attribute.values.as_slice().len() > 1
+}
+
+/// Whether an attribute of the type has two values or more.
+fn has_several_values<T: AssociatedOid>(attributes: &[Attribute]) -> bool
+    ensures { result ≡ grammar.has_several_values T.OID attributes.now }
+{
+    attributes
+        .iter()
+        .any(|attribute| is_of_several::<T>(attribute))
+}
+
+impl Group<CertReq, RequestValues> for RequestRule {
+    ghost use Rattle.x509_lint.specs.Request.{request_sentence};
+    ghost use Rattle.x509_lint.specs.declared.rule.Rule.TheVariants.{Request};
+
+    ghost sentence = { request_sentence };
+
+    ghost as_rule = { λ rule. Request rule };
+
+    fn is_broken(&self, request: &CertReq, values: &RequestValues) -> bool {
+        match self {
+            RequestRule::SubjectRdnEmpty => has_empty_rdn(&request.info.subject),
+            RequestRule::SubjectCountryNameInvalid => has_no_country(&request.info.subject),
+            RequestRule::SubjectTextType => has_faulty_text(
+                TextFault::OtherType,
+                &request.info.subject,
+            ),
+            RequestRule::SubjectTextOldType => has_faulty_text(
+                TextFault::OldType,
+                &request.info.subject,
+            ),
+            RequestRule::SubjectTextCharacters => has_faulty_text(
+                TextFault::OtherCharacter,
+                &request.info.subject,
+            ),
+            RequestRule::SubjectTextSize => has_faulty_text(TextFault::Size, &request.info.subject),
+            RequestRule::SubjectEmptyWithoutAltName => is_empty_name(&request.info.subject)
+                && !has::<SubjectAltName>(requested_extensions(&values.requested)),
+            RequestRule::AttributeRepeated => !values.are_types_distinct,
+            RequestRule::AttributeValuesEmpty => has_no_values(request.info.attributes.as_slice()),
+            RequestRule::ChallengePasswordValues => has_several_values::<ChallengePassword>(
+                request.info.attributes.as_slice(),
+            ),
+            RequestRule::ChallengePasswordMalformed => values.is_password_malformed,
+            RequestRule::ChallengePasswordSize => has_faulty_password(
+                PasswordFault::Size,
+                request.info.attributes.as_slice(),
+            ),
+            RequestRule::ChallengePasswordType => has_faulty_password(
+                PasswordFault::OtherType,
+                request.info.attributes.as_slice(),
+            ),
+            RequestRule::ExtensionRequestValues => has_several_values::<ExtensionReq>(
+                request.info.attributes.as_slice(),
+            ),
+            RequestRule::ExtensionRequestMalformed => values.is_request_malformed,
+            RequestRule::ExtensionsEmpty =>
+                passes!(&values.requested, requested => requested.0.as_slice().is_empty()),
+            RequestRule::ExtensionRepeated => values.is_repeated,
+        }
+    }
+
+    fn to_rule(&self) -> Rule {
+        Rule::Request(*self)
+    }
+}
+
+/// Of each type of extension, that the octets of one of it aren't an encoding of the type.
+static REQUEST_MALFORMED: [Told<ExtensionKind>; 18] = malformed!(
+    "certificationRequestInfo.attributes.extensionRequest."
+);
+
+/// How the rule is told that an extension of the type is malformed.
+pub(crate) fn request_malformed(kind: ExtensionKind) -> Entry
+    ensures { Says result (grammar.request_malformed_sentence kind).wording }
+{
+    REQUEST_MALFORMED[kind as usize].entry
+}
+
+impl Group<CertReq, RequestValues> for ExtensionKind {
+    ghost use Rattle.x509_lint.specs.Request.{request_malformed_sentence};
+    ghost use Rattle.x509_lint.specs.declared.rule.Rule.TheVariants.{RequestExtensionMalformed};
+
+    ghost sentence = { request_malformed_sentence };
+
+    ghost as_rule = { λ kind. RequestExtensionMalformed kind };
+
+    fn is_broken(&self, _request: &CertReq, values: &RequestValues) -> bool {
+        !values.read.is_read(*self)
+    }
+
+    fn to_rule(&self) -> Rule {
+        Rule::RequestExtensionMalformed(*self)
+    }
+}
+
+/// Rules on the SAN that a CSR asks for (RFC 5280 4.2.1.6).
+#[derive(Clone, Copy, Debug, PartialEq, Eq)]
+pub enum RequestNameRule {
     /// The SAN that is asked for has no name (RFC 5280 4.2.1.6, error).
     SubjectAltNameEmpty,
 
@@ -92,82 +246,57 @@ pub enum RequestRule {
     SubjectAltNameUriHostInvalid,
 }
 
-pub(crate) const REQUEST_RULES: [RequestRule; 43] = with_malformed! { RequestRule:
-    RequestRule::SubjectRdnEmpty,
-    RequestRule::SubjectCountryNameInvalid,
-    RequestRule::SubjectTextType,
-    RequestRule::SubjectTextOldType,
-    RequestRule::SubjectTextCharacters,
-    RequestRule::SubjectTextSize,
-    RequestRule::SubjectEmptyWithoutAltName,
-    RequestRule::AttributeRepeated,
-    RequestRule::AttributeValuesEmpty,
-    RequestRule::ChallengePasswordValues,
-    RequestRule::ChallengePasswordMalformed,
-    RequestRule::ChallengePasswordSize,
-    RequestRule::ChallengePasswordType,
-    RequestRule::ExtensionRequestValues,
-    RequestRule::ExtensionRequestMalformed,
-    RequestRule::ExtensionsEmpty,
-    RequestRule::ExtensionRepeated;
-    RequestRule::SubjectAltNameEmpty,
-    RequestRule::SubjectAltNameEmptyName,
-    RequestRule::SubjectAltNameDnsNameInvalid,
-    RequestRule::SubjectAltNameAddressLength,
-    RequestRule::SubjectAltNameMailboxInvalid,
-    RequestRule::SubjectAltNameUriRelative,
-    RequestRule::SubjectAltNameUriInvalid,
-    RequestRule::SubjectAltNameUriHostInvalid
+/// The rules in their order, with how each is told.
+pub(crate) static REQUEST_NAME_RULES: [Told<RequestNameRule>; 8] = rules! { RequestNameRule;
+    SubjectAltNameEmpty => must("subject_alt_name_empty", "4.2.1.6", "certificationRequestInfo.attributes.extensionRequest.subjectAltName"),
+    SubjectAltNameEmptyName => must("subject_alt_name_empty_name", "4.2.1.6", "certificationRequestInfo.attributes.extensionRequest.subjectAltName"),
+    SubjectAltNameDnsNameInvalid => must("subject_alt_name_dns_name_invalid", "4.2.1.6", "certificationRequestInfo.attributes.extensionRequest.subjectAltName"),
+    SubjectAltNameAddressLength => must("subject_alt_name_address_length", "4.2.1.6", "certificationRequestInfo.attributes.extensionRequest.subjectAltName"),
+    SubjectAltNameMailboxInvalid => must("subject_alt_name_mailbox_invalid", "4.2.1.6", "certificationRequestInfo.attributes.extensionRequest.subjectAltName"),
+    SubjectAltNameUriRelative => must("subject_alt_name_uri_relative", "4.2.1.6", "certificationRequestInfo.attributes.extensionRequest.subjectAltName"),
+    SubjectAltNameUriInvalid => must("subject_alt_name_uri_invalid", "4.2.1.6", "certificationRequestInfo.attributes.extensionRequest.subjectAltName"),
+    SubjectAltNameUriHostInvalid => must("subject_alt_name_uri_host_invalid", "4.2.1.6", "certificationRequestInfo.attributes.extensionRequest.subjectAltName"),
 };
 
-/// The place of an extension that is asked for.
-fn place_of(kind: ExtensionKind) -> &'static str
-    ensures { result.now ≡ request_extension_place kind }
-{
-    extension_place!(
-        "certificationRequestInfo.attributes.extensionRequest.",
-        kind
-    )
-}
-
-impl RequestRule {
+impl RequestNameRule {
     /// How bad it is to break the rule, its name, its section, and its place.
     pub fn entry(self) -> Entry
-        ensures { Says result (request_wording self) }
+        ensures { Says result (grammar.request_name_sentence self).wording }
     {
-        told! { self: RequestRule;
-            SubjectRdnEmpty => must("subject_rdn_empty", "4.1.2.6", "certificationRequestInfo.subject"),
-            SubjectCountryNameInvalid => must("subject_country_name_invalid", "A.1", "certificationRequestInfo.subject"),
-            SubjectTextType => must("subject_text_type", "A.1", "certificationRequestInfo.subject"),
-            SubjectTextOldType => should("subject_text_old_type", "4.1.2.6", "certificationRequestInfo.subject"),
-            SubjectTextCharacters => must("subject_text_characters", "4.1.2.6", "certificationRequestInfo.subject"),
-            SubjectTextSize => must("subject_text_size", "A.1", "certificationRequestInfo.subject"),
-            SubjectEmptyWithoutAltName => must("subject_empty_without_alt_name", "4.1.2.6", "certificationRequestInfo.subject"),
-            AttributeRepeated => should_of("RFC 2986", "attribute_repeated", "4.1", "certificationRequestInfo.attributes"),
-            AttributeValuesEmpty => must_of("RFC 2986", "attribute_values_empty", "4.1", "certificationRequestInfo.attributes"),
-            ChallengePasswordValues =>
-                must_of("RFC 2985", "challenge_password_several_values", "5.4.1", "certificationRequestInfo.attributes.challengePassword"),
-            ChallengePasswordMalformed => must_of("RFC 2985", "challenge_password_malformed", "5.4.1", "certificationRequestInfo.attributes.challengePassword"),
-            ChallengePasswordSize => must_of("RFC 2985", "challenge_password_size", "5.4.1", "certificationRequestInfo.attributes.challengePassword"),
-            ChallengePasswordType => should_of("RFC 2985", "challenge_password_type", "5.4.1", "certificationRequestInfo.attributes.challengePassword"),
-            ExtensionRequestValues => must_of("RFC 2985", "extension_request_several_values", "5.4.2", "certificationRequestInfo.attributes.extensionRequest"),
-            ExtensionRequestMalformed => must_of("RFC 2985", "extension_request_malformed", "5.4.2", "certificationRequestInfo.attributes.extensionRequest"),
-            ExtensionsEmpty => must("extensions_empty", "4.1.2.9", "certificationRequestInfo.attributes.extensionRequest"),
-            ExtensionRepeated => must("extension_repeated", "4.2", "certificationRequestInfo.attributes.extensionRequest"),
-            ExtensionMalformed(kind) => must("extension_malformed", "4.2", place_of(kind)),
-            SubjectAltNameEmpty => must("subject_alt_name_empty", "4.2.1.6", "certificationRequestInfo.attributes.extensionRequest.subjectAltName"),
-            SubjectAltNameEmptyName => must("subject_alt_name_empty_name", "4.2.1.6", "certificationRequestInfo.attributes.extensionRequest.subjectAltName"),
-            SubjectAltNameDnsNameInvalid =>
-                must("subject_alt_name_dns_name_invalid", "4.2.1.6", "certificationRequestInfo.attributes.extensionRequest.subjectAltName"),
-            SubjectAltNameAddressLength =>
-                must("subject_alt_name_address_length", "4.2.1.6", "certificationRequestInfo.attributes.extensionRequest.subjectAltName"),
-            SubjectAltNameMailboxInvalid =>
-                must("subject_alt_name_mailbox_invalid", "4.2.1.6", "certificationRequestInfo.attributes.extensionRequest.subjectAltName"),
-            SubjectAltNameUriRelative =>
-                must("subject_alt_name_uri_relative", "4.2.1.6", "certificationRequestInfo.attributes.extensionRequest.subjectAltName"),
-            SubjectAltNameUriInvalid => must("subject_alt_name_uri_invalid", "4.2.1.6", "certificationRequestInfo.attributes.extensionRequest.subjectAltName"),
-            SubjectAltNameUriHostInvalid =>
-                must("subject_alt_name_uri_host_invalid", "4.2.1.6", "certificationRequestInfo.attributes.extensionRequest.subjectAltName"),
+        REQUEST_NAME_RULES[self as usize].entry
+    }
+}
+
+impl Group<CertReq, RequestValues> for RequestNameRule {
+    ghost use Rattle.x509_lint.specs.Request.{request_name_sentence};
+    ghost use Rattle.x509_lint.specs.declared.rule.Rule.TheVariants.{RequestName};
+
+    ghost sentence = { request_name_sentence };
+
+    ghost as_rule = { λ rule. RequestName rule };
+
+    fn is_broken(&self, _request: &CertReq, values: &RequestValues) -> bool {
+        match self {
+            RequestNameRule::SubjectAltNameEmpty =>
+                passes!(&values.subject_alt_name, names => names.0.as_slice().is_empty()),
+            RequestNameRule::SubjectAltNameEmptyName =>
+                passes!(&values.subject_alt_name, names => has_empty_name(names.0.as_slice())),
+            RequestNameRule::SubjectAltNameDnsNameInvalid =>
+                passes!(&values.subject_alt_name, names => has_no_dns_name(names.0.as_slice())),
+            RequestNameRule::SubjectAltNameAddressLength =>
+                passes!(&values.subject_alt_name, names => has_no_address(names.0.as_slice())),
+            RequestNameRule::SubjectAltNameMailboxInvalid =>
+                passes!(&values.subject_alt_name, names => has_no_mailbox(names.0.as_slice())),
+            RequestNameRule::SubjectAltNameUriRelative =>
+                passes!(&values.subject_alt_name, names => has_relative_uri(names.0.as_slice())),
+            RequestNameRule::SubjectAltNameUriInvalid =>
+                passes!(&values.subject_alt_name, names => has_no_uri(names.0.as_slice())),
+            RequestNameRule::SubjectAltNameUriHostInvalid =>
+                passes!(&values.subject_alt_name, names => has_uri_at_other_host(names.0.as_slice())),
         }
+    }
+
+    fn to_rule(&self) -> Rule {
+        Rule::RequestName(*self)
     }
 }

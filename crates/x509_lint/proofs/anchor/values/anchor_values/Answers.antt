@@ -1,4 +1,4 @@
-use Rattle.std.proofs.Common.{◌≡◌, ◌↔◌, ◌∙◌, IsTrue, ap, subst}
+use Rattle.std.proofs.Common.{◌↔◌, ◌∙◌, IsTrue, ap, subst}
 use Rattle.x509_der.specs.Set.{AreDistinct}
 use Rattle.x509_ext.specs.Identifiers.{id_ce}
 use Rattle.x509_ext.specs.LookUp.{IsRepeated, members}

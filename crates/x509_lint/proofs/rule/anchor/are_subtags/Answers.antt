@@ -2,7 +2,7 @@ use Rattle.std.proofs.Common.{rules, ◌==◌}
 use Rattle.std.proofs.lemmas.Iterator.Search.{all_from_yields_List}
 use Rattle.std.proofs.lemmas.Iterator.Splits.{YieldsList-from_slice_split}
 use Rattle.x509_lint.specs.Anchor.{is_subtag}
-use Rattle.x509_lint.proofs.anchor.are_subtags.Goals as goal
+use Rattle.x509_lint.proofs.rule.anchor.are_subtags.Goals as goal
 
 pub returns : goal.returns
 returns c =
