@@ -17,3 +17,5 @@ pub mod Newest
 pub mod Same
 pub mod Settled
 pub mod OneStatus
+pub mod Faulty
+pub mod Silent

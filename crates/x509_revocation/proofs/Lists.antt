@@ -1,5 +1,5 @@
 -- CRLs that are gone over one after the other.
-use Rattle.std.proofs.Common.{◌≡◌, List, [], ◌∷◌, refl}
+use Rattle.std.proofs.Common.{List, [], ◌∷◌, refl}
 use Rattle.std.specs.List.{All}
 use Rattle.x509_revocation.specs.Lent.{LendsAll, LendsGiven}
 use Rattle.x509_revocation.specs.Says.{GivenCrl}

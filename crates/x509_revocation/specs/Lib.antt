@@ -7,6 +7,7 @@ pub mod Entries
 pub mod Ages
 pub mod Says
 pub mod Status
+pub mod Faults
 pub mod Lent
 pub mod LentEntries
 pub mod LentFound

@@ -10,7 +10,6 @@ use Rattle.x509_ext.specs.declared.pkix.crl_reason.CrlReason.TheVariants.{Remove
 use Rattle.x509_ext.specs.declared.pkix.distribution_point.DistributionPoint.{DistributionPoint}
 use Rattle.x509_ext.specs.declared.pkix.issuing_distribution_point.IssuingDistributionPoint.{IssuingDistributionPoint}
 use Rattle.x509_ext.specs.declared.pkix.reasons.Reasons.{Reasons}
-use Rattle.x509_match.specs.Matching.{NamesMatch}
 use Rattle.x509_path.specs.Certificates.{Accepting, Certificate, HasPayload, IsCa, extensions_of}
 use Rattle.x509_path.specs.declared.anchor.Anchor.{Anchor}
 use Rattle.x509_revocation.specs.Crls as crls

@@ -12,6 +12,8 @@ mod dates;
 mod deltas;
 mod entries;
 mod extensions;
+mod fault;
+mod faults;
 mod issuers;
 pub mod laws;
 mod names;
@@ -26,6 +28,8 @@ mod signed_crl;
 mod signers;
 mod status;
 
+pub use fault::CrlFault;
+pub use faults::crl_fault;
 pub use revocation::revocation_status;
 pub use settings::RevocationSettings;
 pub use signed_crl::SignedCrl;

@@ -114,6 +114,7 @@ impl Sides<'_> {
     ghost use Rattle.std.specs.Prelude.{◌≡◌, ◌∷◌, ◌↔◌, List, IfOk, IsTrue, Some};
     ghost use Rattle.x509_ext.specs.declared.pkix.distribution_point.DistributionPoint as distribution_points;
     ghost use Rattle.x509_ext.specs.declared.pkix.name.distribution_point_name.DistributionPointName.TheVariants as places;
+    ghost use Rattle.x509_revocation.specs.Faults.{HasAnyIssuer};
     ghost use Rattle.x509_revocation.specs.LentSides.{LendsSides};
     ghost use Rattle.x509_revocation.specs.Names.{HaveMatch};
     ghost use Rattle.x509_revocation.specs.Points as scopes;
@@ -248,6 +249,24 @@ impl Sides<'_> {
             }
             None => Ok(self.is_issuers),
         }
+    }
+
+    /// Whether one of these points, or the one that is assumed, is for CRLs of this issuer.
+    pub(crate) fn has_any_issuer(&self, points: &[DistributionPoint]) -> Result<bool, AllocError>
+        ensures { IfOk result (λ b. (sides : scopes.Sides) → LendsSides self.now sides
+            → IsTrue b ↔ HasAnyIssuer sides (scopes.assumed_point sides.issuer ∷ points.now)) }
+    {
+        if self.is_issuers {
+            return Ok(true);
+        }
+        let mut rest = points;
+        while let [point, behind @ ..] = rest {
+            if self.has_issuer(&point.crl_issuer)? {
+                return Ok(true);
+            }
+            rest = behind;
+        }
+        Ok(false)
     }
 
     /// Whether the CRL is that of the point.

@@ -42,21 +42,21 @@ use x509_name::name::Name;
 use x509_path::{AnchorRef, SliceVerifier};
 
 /// Whether it is no delta CRL.
-fn is_complete(crl: &CrlRef<'_>) -> bool
+pub(crate) fn is_complete(crl: &CrlRef<'_>) -> bool
     ensures { (list : Crl) → LendsCrl crl.now.bytes.now list → IsTrue result ↔ (with_oid (id_ce 27) (crl_extensions list) ≡ []) }
 {
     has_none(&crl.extensions(), BaseCrlNumber::OID)
 }
 
 /// Whether each critical extension is processed.
-fn is_processed(crl: &CrlRef<'_>) -> bool
+pub(crate) fn is_processed(crl: &CrlRef<'_>) -> bool
     ensures { (list : Crl) → LendsCrl crl.now.bytes.now list → IsTrue result ↔ All IsProcessed (crl_extensions list) }
 {
     are_processed::<IssuingDistributionPoint, BaseCrlNumber>(crl.extensions())
 }
 
 /// Whether the algorithm in the signed part is the one outside it.
-fn has_one_algorithm(crl: &CrlRef<'_>) -> bool
+pub(crate) fn has_one_algorithm(crl: &CrlRef<'_>) -> bool
     ensures { (list : Crl) → LendsCrl crl.now.bytes.now list → IsTrue result ↔ HasOneAlgorithm list }
 {
     crl.inner_algorithm() == crl.signature_algorithm()
@@ -91,14 +91,14 @@ fn is_key(bytes: &[u8]) -> bool
 }
 
 /// Whether the signer's name and key are the encodings of a name and of a key.
-fn is_anchor(signer: &AnchorRef<'_>) -> bool
+pub(crate) fn is_anchor(signer: &AnchorRef<'_>) -> bool
     ensures { IsTrue result ↔ ((anchor : Anchor) × LendsAnchor signer.now anchor) }
 {
     is_name(signer.name) && is_key(signer.key)
 }
 
 /// Whether the signer's name is the CRL's issuer.
-fn is_of_signer(alloc: Global, given: &SignedCrl<'_, '_>) -> Result<bool, AllocError>
+pub(crate) fn is_of_signer(alloc: Global, given: &SignedCrl<'_, '_>) -> Result<bool, AllocError>
     ensures { IfOk result (λ b. (g : GivenCrl) → LendsGiven given.now g → IsTrue b ↔ IsOfSigner g.signer g.crl) }
 {
     if !is_anchor(&given.signer) {
@@ -126,7 +126,11 @@ fn have_one_issuer(alloc: Global, a: &CrlRef<'_>, b: &CrlRef<'_>) -> Result<bool
 }
 
 /// Whether the verifier accepts the signature of the signed part, as it stands in the bytes, for the signer's key.
-fn is_signed<V: SliceVerifier>(verifier: &V, signer: &AnchorRef<'_>, crl: &CrlRef<'_>) -> bool
+pub(crate) fn is_signed<V: SliceVerifier>(
+    verifier: &V,
+    signer: &AnchorRef<'_>,
+    crl: &CrlRef<'_>,
+) -> bool
     ensures { (list : Crl) (anchor : Anchor) → LendsCrl crl.now.bytes.now list → LendsAnchor signer.now anchor
         → IsTrue result ↔ IsSignedBy (V.accepts verifier.now) anchor crl.now.bytes.now list }
 {
@@ -418,7 +422,11 @@ impl<'s, 'a, V: SliceVerifier> Asked<'_, '_, 's, 'a, V> {
     }
 
     /// Whether no CRL takes the place of this one.
-    fn is_current(&self, given: &SignedCrl<'_, '_>, is_indirect: bool) -> Result<bool, AllocError>
+    pub(crate) fn is_current(
+        &self,
+        given: &SignedCrl<'_, '_>,
+        is_indirect: bool,
+    ) -> Result<bool, AllocError>
         ensures { IfOk result (λ b. (c : Certificate) (all : List GivenCrl) (g : GivenCrl) → Lends self.now.certificate.now.bytes.now c
             → LendsAll self.now.crls.now all → LendsNamed given.now g
             → IsTrue b ↔ All (λ n. Replaces (question (V.accepts self.now.verifier.now) self.now.settings.now c) is_indirect n g → ⊥) all) }

@@ -1,14 +1,16 @@
 //! Which certificates a CRL is about, and which reasons it covers.
 
-ghost use Rattle.std.specs.Prelude.{◌≡◌, ◌↔◌, IfOk, IsTrue, MatchOption, Option};
+ghost use Rattle.std.specs.Prelude.{◌≡◌, ◌↔◌, ◌∷◌, IfOk, IsTrue, MatchOption, Option};
 ghost use Rattle.x509_ext.specs.declared.pkix.issuing_distribution_point.IssuingDistributionPoint as lists;
 ghost use Rattle.x509_ext.specs.declared.pkix.reasons.Reasons as reason_sets;
 ghost use Rattle.x509_path.specs.Certificates.{Certificate, IsCa, extensions_of};
 ghost use Rattle.x509_path.specs.Lent.{Lends};
 ghost use Rattle.x509_revocation.specs.Crls.{Crl, HasList};
 ghost use Rattle.x509_revocation.specs.Lent.{LendsCrl};
-ghost use Rattle.x509_revocation.specs.Points.{HasPoints};
-ghost use Rattle.x509_revocation.specs.Says.{AreInScope, Covers, IsInScope};
+ghost use Rattle.x509_revocation.specs.Points.{HasPoints, assumed_point};
+ghost use Rattle.x509_revocation.specs.Faults.{HasAnyIssuer};
+ghost use Rattle.x509_revocation.specs.LentSides.{LendsSides};
+ghost use Rattle.x509_revocation.specs.Says.{AreInScope, Covers, IsInScope, sides_of};
 
 use crate::names::encoded_match;
 use crate::points::Sides;
@@ -42,7 +44,7 @@ fn is_in_scope(point: &IssuingDistributionPoint, is_ca: bool) -> bool
 }
 
 /// The same of a CRL that may have no IssuingDistributionPoint.
-fn are_in_scope(
+pub(crate) fn are_in_scope(
     alloc: Global,
     certificate: &CertificateRef<'_>,
     list: &Option<IssuingDistributionPoint>,
@@ -53,6 +55,28 @@ fn are_in_scope(
         Some(point) => is_in_scope(point, is_ca(alloc, certificate)),
         None => true,
     }
+}
+
+/// The certificate's side and that of the CRL, which has that IssuingDistributionPoint, or none.
+fn sides_of<'s>(
+    alloc: Global,
+    certificate: &'s CertificateRef<'_>,
+    crl: &'s CrlRef<'_>,
+    list: &'s Option<IssuingDistributionPoint>,
+) -> Result<Sides<'s>, AllocError>
+    ensures { IfOk result (λ sides. (c : Certificate) (of : Crl) → Lends certificate.now.bytes.now c → LendsCrl crl.now.bytes.now of
+        → LendsSides sides (sides_of c of list.now)) }
+{
+    let issuer = certificate.issuer();
+    let own = crl.issuer();
+    let is_issuers = encoded_match(alloc, own, issuer)?;
+    Ok(Sides {
+        alloc,
+        issuer,
+        own,
+        is_issuers,
+        list,
+    })
 }
 
 /// The IssuingDistributionPoint of the CRL, if there is one; `None` where there is one that can't be decoded.
@@ -88,16 +112,22 @@ pub(crate) fn covered(
     if !are_in_scope(alloc, certificate, list) {
         return Ok(None);
     }
-    let issuer = certificate.issuer();
-    let own = crl.issuer();
-    let is_issuers = encoded_match(alloc, own, issuer)?;
-    let sides = Sides {
-        alloc,
-        issuer,
-        own,
-        is_issuers,
-        list,
-    };
+    let sides = sides_of(alloc, certificate, crl, list)?;
     let reasons = sides.gather(points)?;
     Ok(Some(reasons))
+}
+
+/// Whether one of those points, or the one that is assumed, is for CRLs of the CRL's issuer.
+pub(crate) fn is_of_issuer(
+    alloc: Global,
+    certificate: &CertificateRef<'_>,
+    points: &[DistributionPoint],
+    crl: &CrlRef<'_>,
+    list: &Option<IssuingDistributionPoint>,
+) -> Result<bool, AllocError>
+    ensures { IfOk result (λ b. (c : Certificate) (of : Crl) → Lends certificate.now.bytes.now c → LendsCrl crl.now.bytes.now of
+        → IsTrue b ↔ HasAnyIssuer (sides_of c of list.now) (assumed_point c.tbs_certificate.issuer ∷ points.now)) }
+{
+    let sides = sides_of(alloc, certificate, crl, list)?;
+    sides.has_any_issuer(points)
 }

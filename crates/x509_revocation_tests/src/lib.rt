@@ -4,6 +4,8 @@
 #[cfg(test)]
 mod current;
 #[cfg(test)]
+mod faults;
+#[cfg(test)]
 mod kinds;
 #[cfg(test)]
 mod statuses;

@@ -1,8 +1,6 @@
-use Rattle.std.proofs.Common.{◌∙◌, refl, sym}
+use Rattle.std.proofs.Common.{◌∙◌, sym}
 use Rattle.std.proofs.lemmas.Bool.{true≢false}
-use Rattle.x509_path.proofs.Lent as certificates
 use Rattle.x509_revocation.specs.Says.{sides_of}
-use Rattle.x509_revocation.proofs.Parts.{issuer_spells}
 use Rattle.x509_revocation.proofs.scope.covered.Goals as goal
 
 pub returns-then-not-are_in_scope : goal.returns-then-not-are_in_scope
@@ -11,17 +9,10 @@ returns-then-not-are_in_scope c = λ certificate crl lends spells has list reaso
 
 pub returns : goal.returns
 returns c = λ certificate crl lends spells has list.
-    let issuer = certificates.issuer_spells certificate c.args.certificate.now.bytes.now lends c.issuer-issuer.result.now (c.issuer-issuer.ensures certificate lends) in
-    let own = issuer_spells crl c.args.crl.now.bytes.now spells c.issuer-own.result.now (c.issuer-own.ensures crl spells) in
     record {
       has_list = list;
       in_scope = (c.are_in_scope.ensures certificate lends).0 c.if-not-are_in_scope.false;
       points = c.args.points.now;
       has_points = has;
-      gathers = c.in_ok-reasons.ensures (sides_of certificate crl c.args.list.now) (record {
-        issuer = issuer;
-        own = own;
-        is_issuers = c.in_ok-is_issuers.ensures crl.tbs_cert_list.issuer certificate.tbs_certificate.issuer own issuer;
-        list = refl;
-      });
+      gathers = c.in_ok-reasons.ensures (sides_of certificate crl c.args.list.now) (c.in_ok-sides.ensures certificate crl lends spells);
     }

@@ -1,5 +1,5 @@
 use Rattle.std.proofs.Common.{ℕ, List, subst, sym}
-use Rattle.x509_revocation.specs.Crls.{IsSigned, IsSignedBy}
+use Rattle.x509_revocation.specs.Crls.{IsSignedBy}
 use Rattle.x509_revocation.proofs.Signed.{anchored, signed_by}
 use Rattle.x509_revocation.proofs.says.Asked.fits.Goals as goal
 
