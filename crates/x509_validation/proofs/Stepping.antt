@@ -192,6 +192,7 @@ module _ (accepts : Accepting) (inputs : Inputs) (path : List (List ℕ)) where
         say = ends.say;
         at_start = ends.at_start;
         outcome = ends.outcome;
+        once = ends.once;
       }
 
       pub with_its_parameters : is_last ≡ true → (parameters : Option (Bor (List ℕ)))

@@ -222,3 +222,4 @@ pub record EndsUnder (inputs : Inputs) (certificates : List Certificate) (found 
   pub at_start : AreSettings inputs settings
   pub say : Say certificates said
   pub outcome : IsOutcome settings said (Valid found)
+  pub once : policies.is_repeated found ≡ false

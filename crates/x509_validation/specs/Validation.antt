@@ -297,6 +297,8 @@ pub record IsUnder (inputs : Inputs) (path : List (List ℕ)) (found : List Poli
   pub say : Say certificates said
   pub at_start : AreSettings inputs settings
   pub outcome : IsOutcome settings said (Valid found)
+  -- each stands there once
+  pub once : policies.is_repeated found ≡ false
 
 -- the parameters are those of the key that is used behind the certificates (6.1.6)
 pub record AreParameters (inputs : Inputs) (path : List (List ℕ)) (parameters : Option (Bor (List ℕ))) : Type 0 where

@@ -1,7 +1,7 @@
 //! What certificates say of policies, lent from their bytes, and the policies along a path.
 
 ghost use Rattle.std.specs.Option.{option_map};
-ghost use Rattle.std.specs.Prelude.{◌≡◌, ◌+◌, ◌↔◌, ◌<◌, ◌∷◌, ◌++◌, [], ℕ, IfOk, List, MatchResult, Option, Some, suc, length, map};
+ghost use Rattle.std.specs.Prelude.{◌≡◌, ◌+◌, ◌↔◌, ◌<◌, ◌∷◌, ◌++◌, [], ℕ, IfOk, List, MatchResult, Option, Some, false, suc, length, map};
 ghost use Rattle.x509_der.specs.Form.{Spells};
 ghost use Rattle.x509_ext.specs.CertificatePolicies.{certificate_policies};
 ghost use Rattle.x509_ext.specs.Identifiers.{id_ce};
@@ -297,7 +297,8 @@ pub(crate) fn end_said<'a>(
     place: usize,
 ) -> Result<Vec<&'a [u8]>, ValidationFault>
     ensures { (settings : policies.Settings) (before : List policies.Certificate) → Follows settings (suc (length before)) before state.now
-        → MatchResult result (λ found. IsOutcome settings (before ++ said_by said.now ∷ []) (Valid (octets_of found.items)))
+        → MatchResult result
+        (λ found. IsOutcome settings (before ++ said_by said.now ∷ []) (Valid (octets_of found.items)) × (policies.is_repeated (octets_of found.items) ≡ false))
         (λ e. StopsAt settings (suc (length before)) before (said_by said.now) place e) }
 {
     match state.finish(alloc, &said.view()) {

@@ -13,8 +13,8 @@ pub struct Validated<'a> {
     /// are none (RFC 5280 6.1.4 (d) to (f)).
     pub parameters: Option<&'a [u8]>,
 
-    /// The policies under which the path is valid, the user-constrained policy set: each as the content octets of its OID,
-    /// lent from a certificate, from what is trusted or from the settings. Any-policy is one of them. There are none where the
-    /// certificates name none and none is asked for.
+    /// The policies under which the path is valid, the user-constrained policy set: each once, as the content octets of its
+    /// OID, lent from a certificate, from what is trusted or from the settings. Any-policy is one of them. There are none
+    /// where the certificates name none and none is asked for.
     pub policies: Vec<&'a [u8]>,
 }

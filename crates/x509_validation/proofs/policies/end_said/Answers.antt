@@ -2,7 +2,7 @@ use Rattle.std.proofs.Common.{◌++◌, ◌∷◌, [], suc, length, refl, subst,
 use Rattle.x509_validation.specs.Policies.{IsRefused}
 use Rattle.x509_validation.specs.Steps.{StopsAt, said_by}
 use Rattle.x509_validation.proofs.PolicyRefusals.{refused_last}
-use Rattle.x509_policy.specs.Follows.{IsOutcome, outcome_of, reason_of}
+use Rattle.x509_policy.specs.Follows.{EachOnce, IsOutcome, outcome_of, reason_of}
 use Rattle.x509_policy.specs.Path.{Valid}
 use Rattle.x509_policy.specs.Views.{certificate_of, octets_of}
 use Rattle.x509_validation.proofs.policies.end_said.Goals as goal
@@ -20,5 +20,7 @@ returns-in-Ok-Refused c = λ settings before follows.
 
 pub returns-in-Ok-Valid : goal.returns-in-Ok-Valid
 returns-in-Ok-Valid c = λ settings before follows.
-    let outcome = subst (λ o. IsOutcome settings (before ++ certificate_of c.view.result ∷ []) (outcome_of o)) c.in-Ok-Valid.field-0-is (c.in-Ok-Valid.ensures.answer settings before follows) in
-    subst (λ own. IsOutcome settings (before ++ own ∷ []) (Valid (octets_of c.in-Ok-Valid.policies.items))) c.view.ensures outcome
+    let outcome = subst (λ o. IsOutcome settings (before ++ certificate_of c.view.result ∷ []) (outcome_of o)) c.in-Ok-Valid.field-0-is (c.in-Ok-Valid.ensures.answer settings before follows) in (
+      subst (λ own. IsOutcome settings (before ++ own ∷ []) (Valid (octets_of c.in-Ok-Valid.policies.items))) c.view.ensures outcome,
+      subst EachOnce c.in-Ok-Valid.field-0-is c.in-Ok-Valid.ensures.once,
+    )

@@ -36,7 +36,7 @@ returns-in-Ok-end_said g c = λ inputs above before stands carries late.
     let same : suc (length before) ≡ suc (length carries.said) = omega (arith, AllZip-long Says before carries.said carries.say) in
     let follows = subst (λ k. Follows carries.settings k carries.said c.args.state.now) same carries.follows in
     let own = said_by c.in-Ok.judged.1.policies in
-    let outcome = c.in-Ok-end_said.ensures carries.settings carries.said follows in (
+    let (outcome, once) = c.in-Ok-end_said.ensures carries.settings carries.said follows in (
       judged.0,
       c.below-below.ensures.anchor judged.0 judged.1,
       subst (λ k. SpellsOption (λ (l : Bor (List ℕ)). l.now) any c.parameters.result (parameters_of k)) (sym (one_behind inputs.trust.anchor.key before judged.0))
@@ -48,6 +48,7 @@ returns-in-Ok-end_said g c = λ inputs above before stands carries late.
         at_start = carries.at_start;
         say = zip_push Says before carries.said judged.0 own carries.say judged.2.1.0;
         outcome = outcome;
+        once = once;
       },
       ended (g.S.Signatures.accepts c.args.validator.now.signatures.now) inputs (standing above before true n) c.args.bytes.now judged.0 alone.0 alone.1 carries.settings carries.said own
           carries.at_start carries.say judged.2.1.0 (omega (arith, same)) c.args.index (omega (arith, same)) (octets_of c.in-Ok-end_said.policies.items) outcome,
