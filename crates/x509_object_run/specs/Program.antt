@@ -2,13 +2,14 @@
 use Rattle.std.specs.Prelude.{◌≡◌, ◌⊎◌, ℕ, max, Bool, true, false, List, [], ◌∷◌, ◌++◌, codes, length, Option, Some, None, Result, Ok, Err, ltb, if◌then◌else◌}
 use Rattle.x509_object_run.specs.Faults.{complaint, fault_text, short_complaint}
 use Rattle.x509_object_run.specs.Labels.{is_standard, label_of}
-use Rattle.x509_object_run.specs.Object.{IsSourceShown, Steps, Subject, heading_for}
+use Rattle.x509_object_run.specs.Object.{IsSourceShown, Steps, Subject, heading_for, object_bytes, unread_fault}
 use Rattle.x509_object_run.specs.Words.{has_option, inputs_of, names_of, options_of}
 use Rattle.x509_object_run.specs.declared.fault.Fault.{Fault}
 use Rattle.x509_object_run.specs.declared.fault.Fault.TheVariants.{Unopened, Unwritten, Memory}
 use Rattle.x509_object_run.specs.declared.fault.OpenError.{OpenError}
 use Rattle.x509_object_run.specs.declared.heading.Headed.{Headed}
 use Rattle.x509_tool_run.specs.Answer.{as_line}
+use Rattle.x509_tool_run.specs.Input.{Input, IsRead, Whole}
 use Rattle.x509_tool_run.specs.Program.{IsWritten, IsCutOff}
 use Rattle.x509_tool_run.specs.Version.{version_text}
 
@@ -37,6 +38,22 @@ streams input output errors = record { input = input; output = output; errors = 
 -- a message is written, as far as it can be
 abbrev pub IsTold : {E : Type 0} → Steps E → E → List ℕ → E → Type 0
 IsTold takes old message new = IsWritten takes old message new ⊎ IsCutOff takes old message new
+
+-- reads give an input, and the bytes that it is of; or why there are none
+abbrev pub IsSourceRead : {R : Type 0} → Steps R → R → R → Result (List ℕ) Fault → Type 0
+IsSourceRead gives from to (Ok bytes) = (input : List ℕ) × IsRead gives from (Whole input) to × (bytes ≡ object_bytes input)
+IsSourceRead gives from to (Err fault) = (input : Input) × IsRead gives from input to × (fault ≡ unread_fault input)
+
+-- the file of a name is read, if it can be opened
+abbrev pub IsFileRead : {F : Type 0} → Steps F → Result F OpenError → Result (List ℕ) Fault → Type 0
+IsFileRead {F} file_gives (Ok file) read = (to : F) × IsSourceRead file_gives file to read
+IsFileRead file_gives (Err e) read = read ≡ Err (Unopened e)
+
+-- the input of a name is read, which is standard input or a file
+abbrev pub IsNamedRead : {R F : Type 0} → Steps R → (List ℕ → Result F OpenError → Type 0) → Steps F → Bool → List ℕ → R → R → Result (List ℕ) Fault → Type 0
+IsNamedRead gives opens file_gives true name from to read = IsSourceRead gives from to read
+IsNamedRead {R} {F} gives opens file_gives false name from to read =
+    (to ≡ from) × (opened : Result F OpenError) × opens name opened × IsFileRead file_gives opened read
 
 -- the file of a name is shown, if it can be opened
 abbrev pub IsFileShown : {F W : Type 0} → Subject → List ℕ → Steps F → Result F OpenError → Steps W → W → W → Result ℕ Fault → Type 0

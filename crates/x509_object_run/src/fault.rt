@@ -75,7 +75,7 @@ fn begins_with(bytes: &[u8], front: &[u8]) -> bool
 }
 
 /// What bytes look like. PEM is told by its first octets.
-pub(crate) fn looks_of(bytes: &[u8]) -> Looks
+pub fn looks_of(bytes: &[u8]) -> Looks
     ensures { result ≡ looks_of bytes.now }
 {
     if bytes.is_empty() {

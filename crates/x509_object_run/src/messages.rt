@@ -3,24 +3,26 @@
 ghost use Rattle.std.specs.List.{flat_map};
 ghost use Rattle.std.specs.Prelude.{◌≡◌, ◌++◌, [], codes};
 ghost use Rattle.x509_object_run.specs.Faults.{complaint, fault_text, short_complaint};
+ghost use Rattle.x509_object_run.specs.Labels.{label_of};
 ghost use Rattle.x509_object_run.specs.Program.{IsTold, Says};
 ghost use Rattle.x509_tool_run.specs.Answer.{as_line};
 ghost use Rattle.x509_tool_run.specs.Version.{version_text};
 ghost use Rattle.x509_object_run.specs.declared.fault.Fault.TheVariants.{Memory};
 
 use crate::fault::Fault;
+use crate::label::label_of;
 use crate::printer::Printer;
 use x509_tool_run::{Sink, VERSION, WriteError, write_texts};
 
-/// Why an input isn't shown, in words: two texts, one behind the other.
-fn reason<P: Printer>(printer: &P, fault: Fault) -> (&'static [u8], &'static [u8])
-    ensures { result.0.now ++ result.1.now ≡ fault_text (P.subject printer.now).no_object fault }
+/// Why an input isn't shown, in words, where bytes that are no object are told so: two texts, one behind the other.
+pub fn fault_words(no_object: &'static [u8], fault: Fault) -> (&'static [u8], &'static [u8])
+    ensures { result.0.now ++ result.1.now ≡ fault_text no_object.now fault }
 {
     match fault {
         Fault::Unopened(e) => (e.text(), b""),
         Fault::Unreadable => (b"can't be read", b""),
         Fault::TooLong => (b"longer than 16777216 bytes", b""),
-        Fault::NoObject(looks) => (printer.no_object(), looks.text()),
+        Fault::NoObject(looks) => (no_object, looks.text()),
         Fault::Unwritten => (b"the output can't be written", b""),
         Fault::Memory => (b"out of memory", b""),
     }
@@ -59,11 +61,24 @@ fn complain_of<'a, E: Sink>(
     tell_texts(errors, &[program, b": ", label, b": ", what, more, b"\n"]);
 }
 
+/// Tells of the input of a name, as far as it can be told: two texts, one behind the other.
+pub fn tell_of_input<'a, E: Sink>(
+    errors: &mut E,
+    program: &'a [u8],
+    name: &'a str,
+    what: &'a [u8],
+    more: &'a [u8],
+)
+    ensures { IsTold E.takes errors.old (complaint program.now (label_of name.now) (what.now ++ more.now)) errors.new }
+{
+    complain_of(errors, program, label_of(name).as_bytes(), what, more);
+}
+
 /// Tells why an input isn't shown.
 pub(crate) fn complain<P: Printer, E: Sink>(printer: &P, label: &[u8], fault: Fault, errors: &mut E)
     ensures { IsTold E.takes errors.old (complaint P.program.name label.now (fault_text (P.subject printer.now).no_object fault)) errors.new }
 {
-    let (what, more) = reason(printer, fault);
+    let (what, more) = fault_words(printer.no_object(), fault);
     complain_of(errors, P::name(), label, what, more);
 }
 

@@ -49,8 +49,8 @@ fn show_inputs<P: Printer, R: Source, F: Source + Drop, O: Opener<F>, W: Sink, E
     )
 }
 
-/// Does what options and names ask for.
-fn obey<P: Printer, R: Source, F: Source + Drop, O: Opener<F>, W: Sink, E: Sink>(
+/// Does what options and names ask for, as [`run`] does.
+pub fn obey<P: Printer, R: Source, F: Source + Drop, O: Opener<F>, W: Sink, E: Sink>(
     alloc: Global,
     options: &[&str],
     names: &[&str],

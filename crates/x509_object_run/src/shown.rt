@@ -48,7 +48,7 @@ fn fault_of(refusal: Refusal) -> Fault
 }
 
 /// Reads an input, and answers the bytes that it is of.
-fn read_object<R: Source>(alloc: Global, reader: &mut R) -> Result<Vec<u8>, Fault>
+pub(crate) fn read_object<R: Source>(alloc: Global, reader: &mut R) -> Result<Vec<u8>, Fault>
     ensures { MatchResult result
         (λ bytes. (input : List ℕ) × IsRead R.gives reader.old (Whole input) reader.new × (bytes.items ≡ object_bytes input))
         (λ fault. (input : Input) × IsRead R.gives reader.old input reader.new × (fault ≡ unread_fault input)) }

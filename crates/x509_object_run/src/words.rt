@@ -8,12 +8,12 @@ use std::alloc::{AllocError, Global};
 
 /// Words, told apart.
 #[derive(Drop)]
-pub(crate) struct Words<'a> {
+pub struct Words<'a> {
     /// The options, up to `--`.
-    pub(crate) options: Vec<&'a str>,
+    pub options: Vec<&'a str>,
 
     /// The other words.
-    pub(crate) names: Vec<&'a str>,
+    pub names: Vec<&'a str>,
 }
 
 /// What a word is.
@@ -57,7 +57,7 @@ fn part_of(is_over: bool, word: &str) -> Part
 /// # Errors
 ///
 /// `AllocError` when out of memory.
-pub(crate) fn split(alloc: Global, words: &[String]) -> Result<Words<'_>, AllocError>
+pub fn split(alloc: Global, words: &[String]) -> Result<Words<'_>, AllocError>
     ensures options { IfOk result (λ split. map (λ word. word.now) split.options.items ≡ options_of (map string_bytes words.now)) }
     ensures names { IfOk result (λ split. map (λ word. word.now) split.names.items ≡ names_of (map string_bytes words.now)) }
 {

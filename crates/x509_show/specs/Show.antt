@@ -55,16 +55,20 @@ misuse options names = []
 -- ---- what the program says of itself
 
 abbrev pub usage : List ℕ
-usage = codes "usage: x509_show [certificate|crl|csr|anchor] [--json] [FILE..]"
+usage = codes "usage: x509_show [certificate|crl|csr|anchor] [--json] [FILE..]\n       x509_show --sct-input ISSUER [FILE]"
 
 abbrev pub help : List ℕ
 help =
-    codes "usage: x509_show [certificate|crl|csr|anchor] [--json] [FILE..]\n\n"
+    codes "usage: x509_show [certificate|crl|csr|anchor] [--json] [FILE..]\n"
+    ++ codes "       x509_show --sct-input ISSUER [FILE]\n\n"
     ++ codes "Prints certificates, CRLs, CSRs and trust anchors, in DER, PEM or hex: a line for\n"
     ++ codes "each thing in them. Without a FILE, and where FILE is -, it reads standard input.\n\n"
     ++ codes "  certificate, crl, csr, anchor  what each input is; without such a word it is tried\n"
     ++ codes "                                 as each of them, in this order\n"
     ++ codes "  --json                         prints a JSON array for each input\n"
+    ++ codes "  --sct-input                    prints of each SCT within a certificate the ID of its log,\n"
+    ++ codes "                                 what its signature is over (RFC 6962 3.2), and the\n"
+    ++ codes "                                 signature, in hex; ISSUER is the certificate of its issuer\n"
     ++ codes "  --                             ends the options\n"
     ++ codes "  --help                         prints this text\n"
     ++ codes "  --version                      prints the version\n\n"

@@ -1,13 +1,17 @@
 //! Certificates, CRLs, CSRs and trust anchors in files or on standard input, in lines that a person reads or in JSON.
 #![tactic(auto)]
 
+mod beside;
 mod pieces;
+mod reason;
 mod show;
+mod timestamps;
 
+use crate::beside::show;
 use crate::show::Show;
 use std::fs::File;
 use std::process::ExitCode;
-use x509_object_run::{refuse_memory, run};
+use x509_object_run::refuse_memory;
 use x509_tool_run::words;
 
 fn main(rt: HostRuntime) -> ExitCode {
@@ -16,7 +20,7 @@ fn main(rt: HostRuntime) -> ExitCode {
     let mut writer = rt.stdout();
     let mut errors = rt.stderr();
     let status = match words(alloc, &rt) {
-        Ok(words) => run::<Show, _, File, _, _, _>(
+        Ok(words) => show::<_, File, _, _, _>(
             alloc,
             words.as_slice(),
             &rt,

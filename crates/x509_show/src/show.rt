@@ -13,6 +13,7 @@ use x509_text::{Document, Kind, Style, document_of_bytes, document_of_kind};
 use x509_tool_run::{Sink, WriteError};
 
 const HELP: &[u8] = b"usage: x509_show [certificate|crl|csr|anchor] [--json] [FILE..]
+       x509_show --sct-input ISSUER [FILE]
 
 Prints certificates, CRLs, CSRs and trust anchors, in DER, PEM or hex: a line for
 each thing in them. Without a FILE, and where FILE is -, it reads standard input.
@@ -20,6 +21,9 @@ each thing in them. Without a FILE, and where FILE is -, it reads standard input
   certificate, crl, csr, anchor  what each input is; without such a word it is tried
                                  as each of them, in this order
   --json                         prints a JSON array for each input
+  --sct-input                    prints of each SCT within a certificate the ID of its log,
+                                 what its signature is over (RFC 6962 3.2), and the
+                                 signature, in hex; ISSUER is the certificate of its issuer
   --                             ends the options
   --help                         prints this text
   --version                      prints the version
@@ -160,7 +164,7 @@ impl Printer for Show {
     }
 
     fn usage() -> &'static [u8] {
-        b"usage: x509_show [certificate|crl|csr|anchor] [--json] [FILE..]\n"
+        b"usage: x509_show [certificate|crl|csr|anchor] [--json] [FILE..]\n       x509_show --sct-input ISSUER [FILE]\n"
     }
 
     fn help() -> &'static [u8] {
