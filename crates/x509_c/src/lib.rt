@@ -16,6 +16,7 @@ mod name_values;
 mod party;
 mod path;
 mod payload;
+mod peer;
 mod point;
 mod policy;
 mod profile;

@@ -1,8 +1,10 @@
-//! What a log has of a certificate, what a timestamp is a signature of, and proofs of Merkle trees.
+//! What a log has of a certificate, what timestamps and tree heads are signatures of, what entries say, and proofs of Merkle trees.
 
 ghost use Rattle.std.specs.Prelude.{◌≡◌, Ok};
 ghost use Rattle.sha2.specs.Sha256.{sha256};
-ghost use Rattle.x509_c_calls.specs.Logs.{Cuts, FillsFound, SignsCertificate, SignsEmbedded};
+ghost use Rattle.x509_c_calls.specs.ChainWalk.{StepsChain};
+ghost use Rattle.x509_c_calls.specs.Leaves.{ReadsLeaf, ReadsPrecertChain, SignsTreeHead};
+ghost use Rattle.x509_c_calls.specs.Logs.{Cuts, CutsReissued, FillsFound, SignsCertificate, SignsEmbedded};
 ghost use Rattle.x509_c_calls.specs.Status.{Fills, Tells};
 ghost use Rattle.x509_c_calls.specs.Trees.{IsConsistent, IsIncluded, Verifies};
 ghost use Rattle.x509_c_calls.specs.declared.status.status.Status.TheVariants.{Refused};
@@ -13,8 +15,10 @@ ghost use Rattle.x509_sct.specs.Identifier.{embedded_timestamps, precertificate_
 use std::alloc::Global;
 use x509_base::Rfc5280;
 use x509_c_calls::{
-    certificate_signed_data, logged_part, logged_precertificate, merkle_consistency,
-    merkle_inclusion, merkle_leaf_hash, timestamp_signed_data,
+    LeafView, PrecertChainView, Span, certificate_signed_data, chain_next, log_leaf_view,
+    logged_part, logged_precertificate, logged_precertificate_signed_by, merkle_consistency,
+    merkle_inclusion, merkle_leaf_hash, precert_chain_view, timestamp_signed_data,
+    tree_head_signed_data,
 };
 use x509_cert::certificate::CertificateInner;
 use x509_der::Grammar;
@@ -47,6 +51,21 @@ pub extern "C" fn x509_logged_precertificate(
     logged_precertificate(alloc, precertificate, room, written).code()
 }
 
+/// Writes the TBSCertificate of a precertificate that a precertificate signing certificate signed.
+#[unsafe(no_mangle)]
+pub extern "C" fn x509_logged_precertificate_signed_by(
+    alloc: Global,
+    precertificate: &[u8],
+    signing: &[u8],
+    room: &mut [u8],
+    written: &mut usize,
+) -> i32
+    ensures { Tells (λ status. FillsFound (CutsReissued ⟦<CertificateInner<Rfc5280> as Grammar>⟧.refuses precertificate.now signing.now)
+        room.old room.new written.old written.new status) result }
+{
+    logged_precertificate_signed_by(alloc, precertificate, signing, room, written).code()
+}
+
 /// Writes what the signature of a timestamp within a certificate is over.
 #[unsafe(no_mangle)]
 pub extern "C" fn x509_timestamp_signed_data(
@@ -75,6 +94,49 @@ pub extern "C" fn x509_timestamp_signed_data_beside(
     ensures { Tells (λ status. Fills (SignsCertificate timestamp.now certificate.now) room.old room.new written.old written.new status) result }
 {
     certificate_signed_data(alloc, timestamp, certificate, room, written).code()
+}
+
+/// Decodes a leaf of a log's tree, and fills in what it says.
+#[unsafe(no_mangle)]
+pub extern "C" fn x509_log_leaf_view(alloc: Global, input: &[u8], view: &mut LeafView) -> i32
+    ensures { Tells (λ status. ReadsLeaf input.now view.old view.new status) result }
+{
+    log_leaf_view(alloc, input, view).code()
+}
+
+/// Decodes what a log gives beside the entry of a precertificate, and fills in where its parts stand.
+#[unsafe(no_mangle)]
+pub extern "C" fn x509_log_precertificate_view(
+    alloc: Global,
+    input: &[u8],
+    view: &mut PrecertChainView,
+) -> i32
+    ensures { Tells (λ status. ReadsPrecertChain input.now view.old view.new status) result }
+{
+    precert_chain_view(alloc, input, view).code()
+}
+
+/// Fills in where the next certificate of a chain stands.
+#[unsafe(no_mangle)]
+pub extern "C" fn x509_log_chain_next(input: &[u8], at: &mut usize, found: &mut Span) -> i32
+    ensures { Tells (λ status. StepsChain input.now at.old at.new found.old found.new status) result }
+{
+    chain_next(input, at, found).code()
+}
+
+/// Writes what the signature of a tree head is over.
+#[unsafe(no_mangle)]
+pub extern "C" fn x509_tree_head_signed_data(
+    alloc: Global,
+    timestamp: u64,
+    tree_size: u64,
+    root_hash: &[u8],
+    room: &mut [u8],
+    written: &mut usize,
+) -> i32
+    ensures { Tells (λ status. Fills (SignsTreeHead timestamp tree_size root_hash.now) room.old room.new written.old written.new status) result }
+{
+    tree_head_signed_data(alloc, timestamp, tree_size, root_hash, room, written).code()
 }
 
 /// Writes the hash of a leaf.

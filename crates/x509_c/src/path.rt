@@ -1,5 +1,6 @@
-//! Checking and validating a path of certificates.
+//! Checking, validating and finding a path of certificates.
 
+ghost use Rattle.x509_c_calls.specs.PathFinding.{FindsPath};
 ghost use Rattle.x509_c_calls.specs.PathValidation.{ValidatesUnderAnchor, ValidatesUnderCertificate, ValidatesUnderKey};
 ghost use Rattle.x509_c_calls.specs.Paths.{ChecksPath};
 ghost use Rattle.x509_c_calls.specs.Status.{Tells};
@@ -7,8 +8,8 @@ ghost use Rattle.x509_c_calls.specs.Status.{Tells};
 use std::alloc::Global;
 use x509_base::{Rfc5280, SubjectPublicKeyInfo};
 use x509_c_calls::{
-    Fault, PathAnswer, PathQuestion, path_check, path_validate, path_validate_under_anchor,
-    path_validate_under_key,
+    BadLink, Fault, FoundPath, PathAnswer, PathQuestion, PathSearch, Span, path_check, path_find,
+    path_validate, path_validate_under_anchor, path_validate_under_key,
 };
 use x509_cert::certificate::CertificateInner;
 use x509_der::Grammar;
@@ -116,4 +117,52 @@ pub extern "C" fn x509_path_validate_under_anchor(
         settings,
     };
     path_validate_under_anchor(alloc, anchor, &question, room, answer).code()
+}
+
+/// Finds a path from one of the anchors over candidates to a certificate, apart from the signatures, of which those are listed that don't
+/// hold. All of them are parts of the input.
+#[unsafe(no_mangle)]
+pub extern "C" fn x509_path_find(
+    alloc: Global,
+    input: &[u8],
+    anchors: &[Span],
+    candidates: &[Span],
+    leaf: &Span,
+    bad: &[BadLink],
+    name_constraints: &[u8],
+    policies: &[u8],
+    settings: &[u8],
+    max_depth: u32,
+    path: &mut [usize],
+    found: &mut FoundPath,
+) -> i32
+    ensures { Tells (λ status. FindsPath (record {
+      certificate = ⟦<CertificateInner<Rfc5280> as Grammar>⟧.refuses;
+      key = ⟦<SubjectPublicKeyInfo as Grammar>⟧.refuses;
+      constraints = ⟦<NameConstraints as Grammar>⟧.refuses;
+      policies = ⟦<CertificatePolicies as Grammar>⟧.refuses;
+    }) (record {
+      bytes = input.entry;
+      anchors = anchors.entry;
+      candidates = candidates.entry;
+      leaf = leaf.now;
+      bad = bad.entry;
+      name_constraints = name_constraints.entry;
+      policies = policies.entry;
+      settings = settings.entry;
+      max_depth = max_depth;
+    }) (record { path = path.old; found = found.old }) (record { path = path.new; found = found.new }) status) result }
+{
+    let search = PathSearch {
+        bytes: input,
+        anchors,
+        candidates,
+        leaf: *leaf,
+        bad,
+        name_constraints,
+        policies,
+        settings,
+        max_depth,
+    };
+    path_find(alloc, &search, path, found).code()
 }

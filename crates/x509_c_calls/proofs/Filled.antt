@@ -3,7 +3,7 @@ use Rattle.std.proofs.Common.{◌≡◌, ◌⊎◌, ℕ, List, Result, Ok, Err, 
 use Rattle.x509_c_calls.specs.Built.{FillsUnrepeated, but_repeated}
 use Rattle.x509_c_calls.specs.Status.{Fills}
 use Rattle.x509_c_calls.specs.declared.status.status.Status.{Status}
-use Rattle.x509_c_calls.specs.declared.status.status.Status.TheVariants.{Done, NoRoom, Absent, Repeated, Faulty, Refused}
+use Rattle.x509_c_calls.specs.declared.status.status.Status.TheVariants.{Done, NoRoom, Absent, Repeated, Faulty, Limit, Refused}
 use Rattle.x509_der.specs.declared.error.ErrorKind.{ErrorKind}
 use Rattle.x509_der.specs.declared.error.ErrorKind.TheVariants.{Memory}
 
@@ -15,6 +15,7 @@ fills_as A B to room filled was written NoRoom (bytes, answers, more, len) = (by
 fills_as A B to room filled was written Absent left = left
 fills_as A B to room filled was written Repeated left = left
 fills_as A B to room filled was written Faulty left = left
+fills_as A B to room filled was written Limit left = left
 fills_as A B to room filled was written (Refused e) (why, same) = (elim why [ inl memory ↦ inl memory | inr answers ↦ inr (to (Err e) answers) ], same)
 
 -- bytes that are an answer are filled in as one

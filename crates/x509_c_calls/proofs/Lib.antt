@@ -52,3 +52,8 @@ pub mod PolicyOids
 pub mod RevocationCrls
 pub mod FindingPlaces
 pub mod MerkleHashes
+pub mod PeerAnswers
+pub mod LeafParts
+pub mod ChainWalks
+pub mod FoundPlaces
+pub mod BadLinks

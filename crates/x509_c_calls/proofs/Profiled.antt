@@ -7,7 +7,7 @@ use Rattle.x509_c_calls.specs.Refusals.{kind_of}
 use Rattle.x509_c_calls.specs.Status.{Fills}
 use Rattle.x509_c_calls.specs.declared.build.profile.ProfileInputs.{ProfileInputs}
 use Rattle.x509_c_calls.specs.declared.status.status.Status.{Status}
-use Rattle.x509_c_calls.specs.declared.status.status.Status.TheVariants.{Done, NoRoom, Absent, Repeated, Faulty, Refused}
+use Rattle.x509_c_calls.specs.declared.status.status.Status.TheVariants.{Done, NoRoom, Absent, Repeated, Faulty, Limit, Refused}
 use Rattle.x509_build.specs.CertificateParts.{TbsCertificate, next_part}
 use Rattle.x509_build.specs.Answer.{IsRefused}
 use Rattle.x509_build.specs.Parts.{Encodes, PartRefuses}
@@ -38,12 +38,14 @@ module _ {P : Type 0} (kind : Kind P) (writing : Writing TbsCertificate) (Are : 
   builds (Ok inputs) are room filled was written Absent left = left
   builds (Ok inputs) are room filled was written Repeated (repeats, same, full) = ((inputs, are, repeats), same, full)
   builds (Ok inputs) are room filled was written Faulty left = left
+  builds (Ok inputs) are room filled was written Limit left = left
   builds (Err refusal) why room filled was written Done (bytes, makes, front, len) = absurd makes
   builds (Err refusal) why room filled was written NoRoom (bytes, makes, more, len) = absurd makes
   builds (Err refusal) why room filled was written (Refused e) (given, same) = (refused e refusal why given, same)
   builds (Err refusal) why room filled was written Absent left = left
   builds (Err refusal) why room filled was written Repeated (repeats, same, full) = absurd repeats
   builds (Err refusal) why room filled was written Faulty left = left
+  builds (Err refusal) why room filled was written Limit left = left
 
 -- the builder with the added extensions
 module _ {P : Type 0} (kind : Kind P) (inputs : ProfileInputs P) where

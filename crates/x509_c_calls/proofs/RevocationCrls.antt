@@ -30,7 +30,7 @@ lent-further lent next opened i d s within is crl signer so_far =
     subst (λ xs. AllPairs IsLentFrom xs (take (i + 1) opened)) (sym is)
     (subst (λ ys. AllPairs IsLentFrom (lent ++ s ∷ []) ys) (sym (take_more opened i d within)) (pairs-append IsLentFrom lent (take i opened) s (get_or opened i d) so_far (crl, signer)))
 
-lends-one : (lent : SignedCrl) (opened : Opened) (given : GivenCrl) → IsLentFrom lent opened → IsOpened opened given → LendsGiven lent given
+pub lends-one : (lent : SignedCrl) (opened : Opened) (given : GivenCrl) → IsLentFrom lent opened → IsOpened opened given → LendsGiven lent given
 lends-one lent opened given same is = record {
   bytes = ap (λ crl. crl.bytes.now) same.0 ∙ is.bytes;
   crl = subst (λ crl. LendsCrl crl.bytes.now given.crl) (sym same.0) is.crl;

@@ -9,7 +9,7 @@ use Rattle.x509_sct.specs.declared.timestamp.SignedCertificateTimestamp.{SignedC
 use Rattle.x509_sct.specs.Form.{Spells}
 use Rattle.x509_sct.specs.Numbers.{uint16, uint64}
 
-stands : (bytes front text behind : List ℕ) (n m : ℕ) → bytes ≡ front ++ (text ++ behind) → n ≡ length front → m ≡ length text → IsAt text behind bytes (record { place = n; len = m })
+pub stands : (bytes front text behind : List ℕ) (n m : ℕ) → bytes ≡ front ++ (text ++ behind) → n ≡ length front → m ≡ length text → IsAt text behind bytes (record { place = n; len = m })
 stands bytes front text behind n m e place len =
     (ap (drop n) e ∙ drop_at front (text ++ behind) n (sym place), len, omega (arith, place, ap length e, length-append front (text ++ behind)))
 

@@ -3,7 +3,7 @@ use Rattle.std.proofs.Common.{◌≡◌, ◌⊎◌, ℕ, Bool, true, false, List
 use Rattle.std.specs.Str.{IsUtf8}
 use Rattle.x509_c_calls.specs.Status.{Fills}
 use Rattle.x509_c_calls.specs.declared.status.status.Status.{Status}
-use Rattle.x509_c_calls.specs.declared.status.status.Status.TheVariants.{Done, NoRoom, Absent, Repeated, Faulty, Refused}
+use Rattle.x509_c_calls.specs.declared.status.status.Status.TheVariants.{Done, NoRoom, Absent, Repeated, Faulty, Limit, Refused}
 use Rattle.x509_c_calls.specs.Identifiers.{IsDotted}
 use Rattle.x509_der.specs.ArcLaws.{content_of-arcs_of}
 use Rattle.x509_der.specs.Arcs.{AreArcs, dotted}
@@ -30,6 +30,7 @@ fills_with answers bytes room filled was written NoRoom good (wanted, same, more
 fills_with answers bytes room filled was written Absent good left accepted = left
 fills_with answers bytes room filled was written Repeated good left accepted = left
 fills_with answers bytes room filled was written Faulty good left accepted = left
+fills_with answers bytes room filled was written Limit good left accepted = left
 fills_with answers bytes room filled was written (Refused e) good left accepted = elim accepted [ inl is ↦ absurd (not_done e is) | inr is ↦ absurd (not_room e is) ]
 
 -- the text of content octets

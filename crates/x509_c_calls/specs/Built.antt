@@ -2,7 +2,7 @@
 use Rattle.std.specs.Prelude.{◌≡◌, ℕ, List, Result, Ok, Err}
 use Rattle.x509_c_calls.specs.Status.{Fills}
 use Rattle.x509_c_calls.specs.declared.status.status.Status.{Status}
-use Rattle.x509_c_calls.specs.declared.status.status.Status.TheVariants.{Done, NoRoom, Absent, Repeated, Faulty, Refused}
+use Rattle.x509_c_calls.specs.declared.status.status.Status.TheVariants.{Done, NoRoom, Absent, Repeated, Faulty, Limit, Refused}
 use Rattle.x509_der.specs.declared.error.ErrorKind.{ErrorKind}
 
 -- the answers but Repeated
@@ -18,3 +18,4 @@ FillsUnrepeated answers room filled was written (Refused e) = Fills (but_repeate
 FillsUnrepeated answers room filled was written Repeated = answers (Err Repeated) × (written ≡ was) × (filled ≡ room)
 FillsUnrepeated answers room filled was written Absent = ⊥
 FillsUnrepeated answers room filled was written Faulty = ⊥
+FillsUnrepeated answers room filled was written Limit = ⊥

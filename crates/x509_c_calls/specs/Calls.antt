@@ -1,7 +1,7 @@
 -- What calls from C answer that read a value, or write one.
 use Rattle.std.specs.Prelude.{◌≡◌, ◌≤◌, ◌⊎◌, ℕ, List, length, Result, Ok, Err}
 use Rattle.x509_c_calls.specs.declared.status.status.Status.{Status}
-use Rattle.x509_c_calls.specs.declared.status.status.Status.TheVariants.{Done, NoRoom, Absent, Repeated, Faulty, Refused}
+use Rattle.x509_c_calls.specs.declared.status.status.Status.TheVariants.{Done, NoRoom, Absent, Repeated, Faulty, Limit, Refused}
 use Rattle.x509_der.specs.declared.error.ErrorKind.{ErrorKind}
 use Rattle.x509_der.specs.declared.error.ErrorKind.TheVariants.{Memory}
 use Rattle.x509_der.specs.Element.{limit}
@@ -18,6 +18,7 @@ Reads form refuses bytes holds unchanged NoRoom = ⊥
 Reads form refuses bytes holds unchanged Absent = ⊥
 Reads form refuses bytes holds unchanged Repeated = ⊥
 Reads form refuses bytes holds unchanged Faulty = ⊥
+Reads form refuses bytes holds unchanged Limit = ⊥
 
 -- the same of a call that fills in nothing
 abbrev pub Checks : {X : Type 0} → Form X → (ErrorKind → Type 0) → List ℕ → Status → Type 0

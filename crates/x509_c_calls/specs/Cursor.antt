@@ -3,7 +3,7 @@ use Rattle.std.specs.Prelude.{◌≡◌, ◌<◌, ◌≤◌, ◌+◌, ◌⊎◌,
 use Rattle.x509_c_calls.specs.Place.{IsAt}
 use Rattle.x509_c_calls.specs.declared.place.span.Span.{Span}
 use Rattle.x509_c_calls.specs.declared.status.status.Status.{Status}
-use Rattle.x509_c_calls.specs.declared.status.status.Status.TheVariants.{Done, NoRoom, Absent, Repeated, Faulty, Refused}
+use Rattle.x509_c_calls.specs.declared.status.status.Status.TheVariants.{Done, NoRoom, Absent, Repeated, Faulty, Limit, Refused}
 use Rattle.x509_der.specs.Element.{element, limit}
 use Rattle.x509_der.specs.Outcome.{IsRefusal}
 use Rattle.x509_der.specs.declared.error.ErrorKind.{ErrorKind}
@@ -59,3 +59,4 @@ Steps form refuses wants tag bytes was is holds unchanged (Refused e) = Stops fo
 Steps form refuses wants tag bytes was is holds unchanged NoRoom = ⊥
 Steps form refuses wants tag bytes was is holds unchanged Repeated = ⊥
 Steps form refuses wants tag bytes was is holds unchanged Faulty = ⊥
+Steps form refuses wants tag bytes was is holds unchanged Limit = ⊥

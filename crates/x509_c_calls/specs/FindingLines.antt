@@ -4,7 +4,7 @@ use Rattle.x509_c_calls.specs.Place.{IsAt}
 use Rattle.x509_c_calls.specs.declared.lint.finding.FindingView.{FindingView}
 use Rattle.x509_c_calls.specs.declared.place.span.Span.{Span}
 use Rattle.x509_c_calls.specs.declared.status.status.Status.{Status}
-use Rattle.x509_c_calls.specs.declared.status.status.Status.TheVariants.{Done, NoRoom, Absent, Repeated, Faulty, Refused}
+use Rattle.x509_c_calls.specs.declared.status.status.Status.TheVariants.{Done, NoRoom, Absent, Repeated, Faulty, Limit, Refused}
 use Rattle.x509_der.specs.declared.error.ErrorKind.TheVariants.{Malformed}
 use Rattle.x509_lint.specs.Report.{json_line}
 use Rattle.x509_lint.specs.Rules.{rule_wording}
@@ -101,3 +101,4 @@ StepsFinding lines was is old new (Refused e) = (e ≡ Malformed) × IsNoFinding
 StepsFinding lines was is old new NoRoom = ⊥
 StepsFinding lines was is old new Repeated = ⊥
 StepsFinding lines was is old new Faulty = ⊥
+StepsFinding lines was is old new Limit = ⊥

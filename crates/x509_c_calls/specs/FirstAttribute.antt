@@ -3,7 +3,7 @@ use Rattle.std.specs.Prelude.{◌≡◌, ◌≤◌, ◌⊎◌, ℕ, true, List, 
 use Rattle.x509_c_calls.specs.Attributes.{IsAttribute}
 use Rattle.x509_c_calls.specs.declared.payloads.name.AttributeView.{AttributeView}
 use Rattle.x509_c_calls.specs.declared.status.status.Status.{Status}
-use Rattle.x509_c_calls.specs.declared.status.status.Status.TheVariants.{Done, NoRoom, Absent, Repeated, Faulty, Refused}
+use Rattle.x509_c_calls.specs.declared.status.status.Status.TheVariants.{Done, NoRoom, Absent, Repeated, Faulty, Limit, Refused}
 use Rattle.x509_der.specs.Element.{limit}
 use Rattle.x509_der.specs.declared.error.ErrorKind.{ErrorKind}
 use Rattle.x509_der.specs.declared.error.ErrorKind.TheVariants.{Memory}
@@ -46,3 +46,4 @@ FindsAttribute form refuses bytes oid was is (Refused e) = (((e ≡ Memory) × (
 FindsAttribute form refuses bytes oid was is NoRoom = ⊥
 FindsAttribute form refuses bytes oid was is Repeated = ⊥
 FindsAttribute form refuses bytes oid was is Faulty = ⊥
+FindsAttribute form refuses bytes oid was is Limit = ⊥

@@ -5,7 +5,7 @@ use Rattle.x509_base.specs.declared.profile.Rfc5280.{Rfc5280}
 use Rattle.x509_c_calls.specs.CrlEntries.{IsEntry}
 use Rattle.x509_c_calls.specs.declared.crl.entry.CrlEntryView.{CrlEntryView}
 use Rattle.x509_c_calls.specs.declared.status.status.Status.{Status}
-use Rattle.x509_c_calls.specs.declared.status.status.Status.TheVariants.{Done, NoRoom, Absent, Repeated, Faulty, Refused}
+use Rattle.x509_c_calls.specs.declared.status.status.Status.TheVariants.{Done, NoRoom, Absent, Repeated, Faulty, Limit, Refused}
 use Rattle.x509_cert.specs.Revoked.{IsFirstWith, with_serial}
 use Rattle.x509_cert.specs.RevokedCert.{revoked_cert}
 use Rattle.x509_cert.specs.declared.crl.revoked_cert.RevokedCert.{RevokedCert}
@@ -42,6 +42,7 @@ FindsEntry refuses number bytes was is (Refused e) = IsNoList refuses bytes e ×
 FindsEntry refuses number bytes was is NoRoom = ⊥
 FindsEntry refuses number bytes was is Repeated = ⊥
 FindsEntry refuses number bytes was is Faulty = ⊥
+FindsEntry refuses number bytes was is Limit = ⊥
 
 -- the same, where the number is that which bytes spell; or these are refused
 unfoldable pub LooksUpEntry : Form (List ℕ) → (ErrorKind → Type 0) → (ErrorKind → Type 0) → List ℕ → List ℕ → CrlEntryView → CrlEntryView → Status → Type 0

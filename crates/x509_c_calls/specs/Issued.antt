@@ -7,7 +7,7 @@ use Rattle.x509_c_calls.specs.Place.{IsAt}
 use Rattle.x509_c_calls.specs.declared.crl.entry.CrlEntryView.{CrlEntryView}
 use Rattle.x509_c_calls.specs.declared.place.span.Span.{Span}
 use Rattle.x509_c_calls.specs.declared.status.status.Status.{Status}
-use Rattle.x509_c_calls.specs.declared.status.status.Status.TheVariants.{Done, NoRoom, Absent, Repeated, Faulty, Refused}
+use Rattle.x509_c_calls.specs.declared.status.status.Status.TheVariants.{Done, NoRoom, Absent, Repeated, Faulty, Limit, Refused}
 use Rattle.x509_cert.specs.Issuers.{FindsIssuer, issuers}
 use Rattle.x509_cert.specs.declared.crl.revoked_cert.RevokedCert.{RevokedCert}
 use Rattle.x509_der.specs.Form.{Form, spelling}
@@ -44,3 +44,4 @@ StepsIssued form refuses wants bytes was is issuer_was issuer_is found_was found
 StepsIssued form refuses wants bytes was is issuer_was issuer_is found_was found_is NoRoom = ⊥
 StepsIssued form refuses wants bytes was is issuer_was issuer_is found_was found_is Repeated = ⊥
 StepsIssued form refuses wants bytes was is issuer_was issuer_is found_was found_is Faulty = ⊥
+StepsIssued form refuses wants bytes was is issuer_was issuer_is found_was found_is Limit = ⊥

@@ -27,6 +27,8 @@ pub mod Status
 pub mod Built
 pub mod Logs
 pub mod Trees
+pub mod Leaves
+pub mod ChainWalk
 pub mod Calls
 pub mod Place
 pub mod SignedPlace
@@ -42,7 +44,9 @@ pub mod Issued
 pub mod Pieces
 pub mod Paths
 pub mod PathValidation
+pub mod PathFinding
 pub mod RevocationStatus
+pub mod CrlFaults
 pub mod OpenedCrls
 pub mod Cursor
 pub mod Optional
@@ -69,3 +73,4 @@ pub mod StatusTexts
 pub mod Documents
 pub mod Findings
 pub mod FindingLines
+pub mod Peers

@@ -1,19 +1,20 @@
 -- What calls from C answer clients of logs: the signed part that a log has, and what a timestamp is a signature of (RFC 6962 3.2).
-use Rattle.std.specs.Prelude.{◌≡◌, ◌⊎◌, ◌≤◌, ℕ, List, [], length, Result, Ok, Err}
+use Rattle.std.specs.Prelude.{◌≡◌, ◌⊎◌, ◌≤◌, ◌<◌, ℕ, List, [], length, Result, Ok, Err}
 use Rattle.std.proofs.Common.{inl, inr}
 use Rattle.sha2.specs.Sha256.{sha256}
 use Rattle.x509_base.specs.SubjectPublicKeyInfo.{subject_public_key_info}
 use Rattle.x509_c_calls.specs.Built.{FillsUnrepeated}
 use Rattle.x509_c_calls.specs.Timestamps.{refusal_of}
 use Rattle.x509_c_calls.specs.declared.status.status.Status.{Status}
-use Rattle.x509_c_calls.specs.declared.status.status.Status.TheVariants.{Done, NoRoom, Absent, Repeated, Faulty, Refused}
+use Rattle.x509_c_calls.specs.declared.status.status.Status.TheVariants.{Done, NoRoom, Absent, Repeated, Faulty, Limit, Refused}
 use Rattle.x509_cert.specs.Certificate.{rfc5280_certificate}
 use Rattle.x509_cert.specs.TbsCertificate.{rfc5280_tbs_certificate}
+use Rattle.x509_der.specs.Element.{limit}
 use Rattle.x509_der.specs.declared.error.ErrorKind.{ErrorKind}
 use Rattle.x509_der.specs.declared.error.ErrorKind.TheVariants as kinds
 use Rattle.x509_der.specs.Form.{spelling, Spells as IsDer}
 use Rattle.x509_ext.specs.LookUp.{members, with_oid}
-use Rattle.x509_log.specs.Logged.{HasOne, without}
+use Rattle.x509_log.specs.Logged.{HasOne, IsReissued, RefusesReissue, without}
 use Rattle.x509_log.specs.declared.error.LogError.{LogError}
 use Rattle.x509_log.specs.declared.error.LogError.TheVariants as errors
 use Rattle.x509_path.specs.Certificates.{Certificate}
@@ -36,6 +37,7 @@ FillsFound answers room filled was written NoRoom = FillsUnrepeated answers room
 FillsFound answers room filled was written (Refused e) = FillsUnrepeated answers room filled was written (Refused e)
 FillsFound answers room filled was written Repeated = FillsUnrepeated answers room filled was written Repeated
 FillsFound answers room filled was written Faulty = ⊥
+FillsFound answers room filled was written Limit = ⊥
 
 -- an error of a call on a certificate that is logged, as a status
 abbrev pub status_of : LogError → Status
@@ -64,6 +66,30 @@ IsUncut refuses oid bytes status =
 abbrev pub Cuts : (ErrorKind → Type 0) → List ℕ → List ℕ → Result (List ℕ) Status → Type 0
 Cuts refuses oid bytes (Ok octets) = IsCut oid bytes octets
 Cuts refuses oid bytes (Err status) = IsUncut refuses oid bytes status
+
+-- ---- a precertificate that a precertificate signing certificate signed
+
+-- both are certificates, and the octets are the TBSCertificate under the final issuer
+pub record IsCutReissued (bytes signing octets : List ℕ) : Type 0 where
+  pub certificate : Certificate
+  pub read : IsDer rfc5280_certificate certificate bytes
+  pub above : Certificate
+  pub read_above : IsDer rfc5280_certificate above signing
+  pub is : IsReissued rfc5280_tbs_certificate certificate.tbs_certificate above.tbs_certificate octets
+
+-- Why none is cut: one of them is no certificate; or what has to be there once isn't; or the octets are more than an element may have.
+abbrev pub IsUncutReissued : (ErrorKind → Type 0) → List ℕ → List ℕ → Status → Type 0
+IsUncutReissued refuses bytes signing status =
+    ((e : ErrorKind) × (status ≡ Refused e) × IsRefused rfc5280_certificate refuses bytes e)
+    ⊎ (((e : ErrorKind) × (status ≡ Refused e) × IsRefused rfc5280_certificate refuses signing e)
+    ⊎ ((certificate above : Certificate) × IsDer rfc5280_certificate certificate bytes × IsDer rfc5280_certificate above signing
+    × (((e : LogError) × (status ≡ status_of e) × RefusesReissue certificate.tbs_certificate above.tbs_certificate e)
+    ⊎ ((octets : List ℕ) × (status ≡ Refused kinds.Overlength) × IsReissued rfc5280_tbs_certificate certificate.tbs_certificate above.tbs_certificate octets
+    × (limit < length octets)))))
+
+abbrev pub CutsReissued : (ErrorKind → Type 0) → List ℕ → List ℕ → Result (List ℕ) Status → Type 0
+CutsReissued refuses bytes signing (Ok octets) = IsCutReissued bytes signing octets × (length octets ≤ limit)
+CutsReissued refuses bytes signing (Err status) = IsUncutReissued refuses bytes signing status
 
 -- ---- what is signed
 

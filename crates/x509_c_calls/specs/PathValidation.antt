@@ -275,6 +275,7 @@ TellsValidation inputs path was is (statuses.Refused e) =
     × (is ≡ was)
 TellsValidation inputs path was is statuses.NoRoom = ⊥
 TellsValidation inputs path was is statuses.Repeated = ⊥
+TellsValidation inputs path was is statuses.Limit = ⊥
 
 -- what a call leaves that is asked this under what is trusted
 unfoldable pub Validates : (ErrorKind → Type 0) → (ErrorKind → Type 0) → PathQuestion → Trust → Left → Left → Status → Type 0

@@ -38,6 +38,7 @@ Tells moment anchor inputs was is statuses.Absent = (inputs ≡ []) × (is ≡ w
 Tells moment anchor inputs was is (statuses.Refused e) = (e ≡ kinds.Memory) × (is ≡ was)
 Tells moment anchor inputs was is statuses.NoRoom = ⊥
 Tells moment anchor inputs was is statuses.Repeated = ⊥
+Tells moment anchor inputs was is statuses.Limit = ⊥
 
 -- bytes that are cut by lengths, a moment in seconds, and an anchor's certificate
 pub record Asked (anchor_bytes bytes lens : List ℕ) (seconds : ℕ) : Type 0 where

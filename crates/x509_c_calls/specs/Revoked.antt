@@ -5,7 +5,7 @@ use Rattle.x509_base.specs.Time.{date_time_of}
 use Rattle.x509_c_calls.specs.declared.crl.lookup.Revocation.{Revocation}
 use Rattle.x509_types.specs.Reencoding.{IsRefused}
 use Rattle.x509_c_calls.specs.declared.status.status.Status.{Status}
-use Rattle.x509_c_calls.specs.declared.status.status.Status.TheVariants.{Done, NoRoom, Absent, Repeated, Faulty, Refused}
+use Rattle.x509_c_calls.specs.declared.status.status.Status.TheVariants.{Done, NoRoom, Absent, Repeated, Faulty, Limit, Refused}
 use Rattle.x509_cert.specs.Revoked.{IsFirstWith, entries, with_serial}
 use Rattle.x509_cert.specs.declared.crl.certificate_list.CertificateList.{CertificateList}
 use Rattle.x509_cert.specs.declared.crl.revoked_cert.RevokedCert.{RevokedCert}
@@ -51,6 +51,7 @@ Tells finds list number was is (Refused e) = (found : FirstEntry number list) ×
 Tells finds list number was is NoRoom = ⊥
 Tells finds list number was is Repeated = ⊥
 Tells finds list number was is Faulty = ⊥
+Tells finds list number was is Limit = ⊥
 
 -- What a call leaves that asks bytes for bytes: what the list says of the number that are spelled; or the list is
 -- refused; or, where there is a list, the number is.

@@ -3,7 +3,7 @@ use Rattle.std.specs.Prelude.{◌≡◌, ◌+◌, ◌⊎◌, ℕ, List, [], ◌+
 use Rattle.x509_c_calls.specs.Place.{IsAt}
 use Rattle.x509_c_calls.specs.declared.place.span.Span.{Span}
 use Rattle.x509_c_calls.specs.declared.status.status.Status.{Status}
-use Rattle.x509_c_calls.specs.declared.status.status.Status.TheVariants.{Done, NoRoom, Absent, Repeated, Faulty, Refused}
+use Rattle.x509_c_calls.specs.declared.status.status.Status.TheVariants.{Done, NoRoom, Absent, Repeated, Faulty, Limit, Refused}
 use Rattle.x509_der.specs.Element.{element}
 use Rattle.x509_der.specs.declared.error.ErrorKind.TheVariants.{Malformed}
 use Rattle.x509_sct.specs.Numbers.{vector16}
@@ -42,3 +42,4 @@ Steps bytes was is old new (Refused e) = (e ≡ Malformed) × Stops bytes was ×
 Steps bytes was is old new NoRoom = ⊥
 Steps bytes was is old new Repeated = ⊥
 Steps bytes was is old new Faulty = ⊥
+Steps bytes was is old new Limit = ⊥

@@ -3,7 +3,7 @@ use Rattle.std.specs.Prelude.{◌≡◌, ◌<◌, ◌≤◌, ◌⊎◌, ℕ, ℤ
 use Rattle.x509_der.specs.declared.error.ErrorKind.{ErrorKind}
 use Rattle.x509_der.specs.declared.error.ErrorKind.TheVariants.{Memory, Overlength, Malformed, Failed, SetDuplicate, Value}
 use Rattle.x509_c_calls.specs.declared.status.status.Status.{Status}
-use Rattle.x509_c_calls.specs.declared.status.status.Status.TheVariants.{Done, NoRoom, Absent, Repeated, Faulty, Refused}
+use Rattle.x509_c_calls.specs.declared.status.status.Status.TheVariants.{Done, NoRoom, Absent, Repeated, Faulty, Limit, Refused}
 
 -- the number of a refusal: -1 where memory ran out
 abbrev pub refusal_code : ErrorKind → ℤ
@@ -21,6 +21,7 @@ code_of NoRoom = negsuc 1
 code_of Absent = pos 6
 code_of Repeated = pos 7
 code_of Faulty = pos 8
+code_of Limit = pos 9
 code_of (Refused e) = refusal_code e
 
 -- a number that tells of a status of which this holds
@@ -43,3 +44,4 @@ Fills answers room filled was written (Refused e) = ((e ≡ Memory) ⊎ answers 
 Fills answers room filled was written Absent = ⊥
 Fills answers room filled was written Repeated = ⊥
 Fills answers room filled was written Faulty = ⊥
+Fills answers room filled was written Limit = ⊥

@@ -2,7 +2,7 @@
 use Rattle.std.specs.Prelude.{◌≡◌, ℕ, ℤ, List, codes, Result, Ok, Err}
 use Rattle.x509_c_calls.specs.Status.{code_of}
 use Rattle.x509_c_calls.specs.declared.status.status.Status.{Status}
-use Rattle.x509_c_calls.specs.declared.status.status.Status.TheVariants.{Done, NoRoom, Absent, Repeated, Faulty, Refused}
+use Rattle.x509_c_calls.specs.declared.status.status.Status.TheVariants.{Done, NoRoom, Absent, Repeated, Faulty, Limit, Refused}
 use Rattle.x509_der.specs.declared.error.ErrorKind.{ErrorKind}
 use Rattle.x509_der.specs.declared.error.ErrorKind.TheVariants.{Memory, Overlength, Malformed, Failed, SetDuplicate, Value}
 
@@ -20,6 +20,7 @@ text_of NoRoom = codes "the room is too small"
 text_of Absent = codes "absent"
 text_of Repeated = codes "there more than once"
 text_of Faulty = codes "the path has a fault"
+text_of Limit = codes "a limit is used up"
 text_of (Refused e) = refusal_text e
 
 -- the text of the status with that number, or Failed where none has it

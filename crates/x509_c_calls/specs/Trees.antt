@@ -3,7 +3,7 @@ use Rattle.std.specs.Prelude.{◌≡◌, ◌⊎◌, ℕ, List, length, Some, All
 use Rattle.std.specs.List.{flat_map}
 use Rattle.sha2.specs.Sha256.{sha256}
 use Rattle.x509_c_calls.specs.declared.status.status.Status.{Status}
-use Rattle.x509_c_calls.specs.declared.status.status.Status.TheVariants.{Done, NoRoom, Absent, Repeated, Faulty, Refused}
+use Rattle.x509_c_calls.specs.declared.status.status.Status.TheVariants.{Done, NoRoom, Absent, Repeated, Faulty, Limit, Refused}
 use Rattle.x509_der.specs.declared.error.ErrorKind.TheVariants.{Failed, Memory}
 use Rattle.x509_merkle.specs.Merkle.{Octets, recomputed_root, recomputed_roots}
 
@@ -38,3 +38,4 @@ Verifies holds NoRoom = ⊥
 Verifies holds Absent = ⊥
 Verifies holds Repeated = ⊥
 Verifies holds Faulty = ⊥
+Verifies holds Limit = ⊥

@@ -2,6 +2,7 @@
 
 ghost use Rattle.std.specs.Prelude.{◌≡◌, ◌⊎◌, List, get_or, map, IfOk, MatchOption, MatchResult};
 ghost use Rattle.x509_c_calls.specs.Calls.{Reads};
+ghost use Rattle.x509_c_calls.specs.CrlFaults.{TellsFault, fault_number};
 ghost use Rattle.x509_c_calls.specs.OpenedCrls.{IsOpened};
 ghost use Rattle.x509_c_calls.specs.RevocationStatus.{AllPairs, AreGiven, AreNotGiven, AreOfNoRevocation, AreOfRevocation, AreParts, IsNotGiven, IsOutside, IsWithin, TellsSigner, TellsStatus, part_of, told, verified};
 ghost use Rattle.x509_c_calls.specs.declared.revocation.SignedCrlSpans as spans;
@@ -23,8 +24,8 @@ use x509_cert::crl::CertificateList;
 use x509_check::{CertificateRef, Check, CrlRef};
 use x509_der::{ErrorKind, Grammar};
 use x509_name::name::Name;
-use x509_path::{AnchorRef, AnySignature};
-use x509_revocation::{RevocationSettings, RevocationStatus, SignedCrl};
+use x509_path::{AnchorRef, AnySignature, SliceVerifier};
+use x509_revocation::{CrlFault, RevocationSettings, RevocationStatus, SignedCrl};
 
 /// A CRL, and the name and the key under which it is verified: where each stands in the bytes.
 #[derive(Clone, Copy, Debug, PartialEq, Eq)]
@@ -85,7 +86,7 @@ fn settings_of(settings: &[u8]) -> Option<RevocationSettings>
 }
 
 /// A part of the bytes, if it lies within them.
-fn part_of(bytes: &[u8], span: Span) -> Option<&[u8]>
+pub(crate) fn part_of(bytes: &[u8], span: Span) -> Option<&[u8]>
     ensures { MatchOption result (IsOutside bytes.now span) (λ found. IsWithin bytes.now span × (found.now ≡ part_of bytes.now span)) }
 {
     if bytes.len() < span.place || bytes.len() - span.place < span.len {
@@ -302,6 +303,116 @@ pub fn revocation_status(
     ) {
         Ok(status) => {
             *answer = answer_of(found.as_slice(), status);
+            Status::Done
+        }
+        Err(e) => e.into(),
+    }
+}
+
+/// The number of a fault, and 0 for none.
+fn fault_number(fault: Option<CrlFault>) -> u32
+    ensures { result ≡ fault_number fault }
+{
+    match fault {
+        None => 0,
+        Some(CrlFault::NotYetValid) => 1,
+        Some(CrlFault::Expired) => 2,
+        Some(CrlFault::Critical) => 3,
+        Some(CrlFault::Algorithm) => 4,
+        Some(CrlFault::Delta) => 5,
+        Some(CrlFault::IssuingPoint) => 6,
+        Some(CrlFault::Issuer) => 7,
+        Some(CrlFault::Scope) => 8,
+        Some(CrlFault::Point) => 9,
+        Some(CrlFault::Signer) => 10,
+        Some(CrlFault::Signature) => 11,
+        Some(CrlFault::Entry) => 12,
+        Some(CrlFault::Replaced) => 13,
+    }
+}
+
+/// Takes any bits for a signature, or none.
+#[derive(Clone, Copy)]
+struct Marked {
+    /// Whether it takes any.
+    is_verified: bool,
+}
+
+impl SliceVerifier for Marked {
+    ghost accepts = { λ verifier algorithm key message bits. verifier.is_verified };
+
+    fn verify(&self, _algorithm: &[u8], _key: &[u8], _message: &[u8], _signature: &[u8]) -> bool {
+        self.is_verified
+    }
+}
+
+/// Says why the CRL at a place says nothing of a certificate, as [`x509_revocation::crl_fault`] says, beside those that the caller
+/// has verified; one that isn't verified has no signature. What is given is as [`revocation_status`] takes it.
+///
+/// # Errors
+///
+/// Those of [`revocation_status`]; `Value` also where no CRL is at the place; of that CRL, verified or not, `Failed` where a part
+/// isn't within the bytes, and the errors of decoding the CRL, the name and the key. Where several are bad, any of them. `fault` is
+/// unchanged then.
+#[tactic(auto, unfolding(crate::specs::CrlFaults::TellsFault))]
+pub fn crl_fault(
+    alloc: Global,
+    certificate: &[u8],
+    bytes: &[u8],
+    crls: &[SignedCrlSpans],
+    settings: &[u8],
+    place: usize,
+    fault: &mut u32,
+) -> Status
+    ensures { TellsFault (record {
+      certificate = ⟦<CertificateInner<Rfc5280> as Grammar>⟧.refuses;
+      crl = ⟦<CertificateList<Rfc5280> as Grammar>⟧.refuses;
+      name = ⟦<Name as Grammar>⟧.refuses;
+      key = ⟦<SubjectPublicKeyInfo as Grammar>⟧.refuses;
+    }) certificate.now bytes.now crls.now settings.now place
+        fault.old fault.new result }
+{
+    let Some(settings) = settings_of(settings) else {
+        return Status::Refused(ErrorKind::Value);
+    };
+    let Some(spans) = crls.get(place) else {
+        return Status::Refused(ErrorKind::Value);
+    };
+    let certificate = match CertificateRef::<Rfc5280>::from_der(certificate) {
+        Ok(certificate) => certificate,
+        Err(e) => return e.into(),
+    };
+    let own = match open_one(bytes, spans) {
+        Ok(own) => own,
+        Err(e) => return Status::Refused(e),
+    };
+    let Ok(found) = verified_of(alloc, crls) else {
+        return Status::Refused(ErrorKind::Memory);
+    };
+    let opened = match open_all(alloc, bytes, found.as_slice()) {
+        Ok(opened) => opened,
+        Err(e) => return Status::Refused(e),
+    };
+    let Ok(lent) = lent_crls(alloc, opened.as_slice()) else {
+        return Status::Refused(ErrorKind::Memory);
+    };
+    let asked = SignedCrl {
+        crl: &own.crl,
+        signer: own.signer,
+    };
+    let verifier = Marked {
+        is_verified: spans.verified == 1,
+    };
+    match x509_revocation::crl_fault(
+        alloc,
+        &certificate,
+        &asked,
+        lent.as_slice(),
+        &settings,
+        &verifier,
+    ) {
+        Ok(told) => {
+            *fault = fault_number(told);
             Status::Done
         }
         Err(e) => e.into(),

@@ -7,3 +7,4 @@ mod cuts;
 mod embedded;
 #[cfg(test)]
 mod entries;
+mod reissued;

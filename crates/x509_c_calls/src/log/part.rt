@@ -1,7 +1,7 @@
 //! The signed part of a precertificate, as a log has it.
 
 ghost use Rattle.std.specs.Prelude.{◌≡◌, ◌⊎◌, Ok, Err, IfErr, IfOk};
-ghost use Rattle.x509_c_calls.specs.Logs.{Cuts, FillsFound, status_of};
+ghost use Rattle.x509_c_calls.specs.Logs.{Cuts, CutsReissued, FillsFound, status_of};
 ghost use Rattle.x509_c_calls.specs.declared.status.status.Status.TheVariants.{Refused};
 ghost use Rattle.x509_der.specs.declared.error.ErrorKind.TheVariants.{Memory};
 ghost use Rattle.x509_sct.specs.Identifier.{embedded_timestamps, precertificate_poison};
@@ -85,6 +85,47 @@ pub fn logged_precertificate(
     ensures { FillsFound (Cuts ⟦<CertificateInner<Rfc5280> as Grammar>⟧.refuses precertificate_poison input.now) room.old room.new written.old written.new result }
 {
     match without_poison(alloc, input) {
+        Ok(octets) => fill(octets.as_slice(), room, written),
+        Err(status) => status,
+    }
+}
+
+/// The signed part of the precertificate without its poison, under the final issuer.
+fn reissued(alloc: Global, precertificate: &[u8], signing: &[u8]) -> Result<Vec<u8>, Status>
+    ensures found { IfOk result (λ octets. CutsReissued ⟦<CertificateInner<Rfc5280> as Grammar>⟧.refuses precertificate.now signing.now (Ok octets.items)) }
+    ensures refused { IfErr result (λ status. (status ≡ Refused Memory)
+        ⊎ CutsReissued ⟦<CertificateInner<Rfc5280> as Grammar>⟧.refuses precertificate.now signing.now (Err status)) }
+{
+    let precertificate = CertificateRef::<Rfc5280>::from_der(precertificate)?;
+    let signing = CertificateRef::<Rfc5280>::from_der(signing)?;
+    match LoggedPart::from_precertificate_signed_by(&precertificate, &signing) {
+        Ok(part) => Ok(part.to_der(alloc)?),
+        Err(e) => Err(status_of(e)),
+    }
+}
+
+/// As [`logged_precertificate`], of a precertificate that a precertificate signing certificate signed (RFC 6962 3.1): its issuer is that of the signing
+/// certificate, and where the precertificate has an authority key identifier, that has the value which it has in the signing certificate (3.2). Whether that is
+/// a precertificate signing certificate, and signed the precertificate, isn't looked at.
+///
+/// # Errors
+///
+/// [`Status::NoRoom`] exactly where the buffer is too small; then `written` is the needed length. [`Status::Absent`] exactly where the precertificate has no
+/// poison, or one poison and one authority key identifier, which the signing certificate has not. [`Status::Repeated`] exactly where the precertificate has two
+/// poisons or more; or one, and two authority key identifiers or more; or one of both, and the signing certificate two authority key identifiers or more.
+/// `Overlength` where the octets are too many for an element, which only a longer value can make them. The errors of checking either certificate. Where both
+/// are bad, that of the precertificate. `Memory` when out of memory.
+#[tactic(auto, unfolding(crate::specs::Logs::FillsFound, crate::specs::Built::FillsUnrepeated, crate::specs::Status::Fills))]
+pub fn logged_precertificate_signed_by(
+    alloc: Global,
+    precertificate: &[u8],
+    signing: &[u8],
+    room: &mut [u8],
+    written: &mut usize,
+) -> Status
+    ensures { FillsFound (CutsReissued ⟦<CertificateInner<Rfc5280> as Grammar>⟧.refuses precertificate.now signing.now) room.old room.new written.old written.new result }
+{
+    match reissued(alloc, precertificate, signing) {
         Ok(octets) => fill(octets.as_slice(), room, written),
         Err(status) => status,
     }

@@ -36,7 +36,7 @@ pub struct PathAnswer {
 const NOWHERE: Span = Span { place: 0, len: 0 };
 
 /// The number of a reason.
-fn number_of(reason: ValidationReason) -> u32
+pub(crate) fn number_of(reason: ValidationReason) -> u32
     ensures { result ≡ validation_code reason }
 {
     match reason {

@@ -26,7 +26,7 @@ use x509_path::{AnchorRef, AnySignature};
 use x509_validation::{PathSettings, Trusted, TrustedBuf, ValidationFault, validate_path_lent};
 
 /// The constraints, if there are any.
-fn constraints_of(octets: &[u8]) -> Result<Option<&[u8]>, ErrorKind>
+pub(crate) fn constraints_of(octets: &[u8]) -> Result<Option<&[u8]>, ErrorKind>
     ensures { MatchResult result (λ lent. (constraints : Option values.NameConstraints)
         × AreConstraints octets.now constraints × LendsConstraints lent constraints)
         (λ e. (octets.now ≢ []) × IsRefused name_constraints ⟦<NameConstraints as Grammar>⟧.refuses octets.now e) }
@@ -78,14 +78,14 @@ fn tell(
 
 /// The policies that are named, and the content octets of another purpose.
 #[derive(Drop)]
-struct Named {
-    policies: Option<CertificatePolicies>,
-    own: Vec<u8>,
+pub(crate) struct Named {
+    pub policies: Option<CertificatePolicies>,
+    pub own: Vec<u8>,
 }
 
 /// The content octets of the OIDs of the policies that are accepted, behind them those of the purposes of which one is asked for,
 /// and how many policies these are.
-fn lists_of<'n>(
+pub(crate) fn lists_of<'n>(
     alloc: Global,
     named: &'n Named,
     number: u64,

@@ -24,6 +24,9 @@ pub enum Status {
     /// A certificate of a path has a fault.
     Faulty,
 
+    /// More would be tried than is allowed.
+    Limit,
+
     /// The call was refused with an error.
     Refused(ErrorKind),
 }
@@ -44,6 +47,7 @@ impl Status {
             Status::Absent => 6,
             Status::Repeated => 7,
             Status::Faulty => 8,
+            Status::Limit => 9,
             Status::Refused(ErrorKind::Memory) => -1,
             Status::NoRoom => -2,
         }

@@ -1,0 +1,5 @@
+//! Tests of names of peers: what no clause says.
+#![tactic(auto)]
+
+#[cfg(test)]
+mod names;
