@@ -9,7 +9,7 @@
  * output. The buffers and results of one call must not overlap its input.
  *
  * Status. Each call answers one of the numbers below, and no other than those that it lists. Where it isn't X509_OK, what the call fills in is
- * unchanged, apart from buffers, `*written` after X509_ROOM, and `*fault` and `*answer` after X509_FAULT.
+ * unchanged, apart from buffers, `*written` after X509_ROOM, and `*fault`, `*answer` and `*found` after X509_FAULT.
  *
  * Places are offsets from the first byte of the input, and lengths are numbers of bytes. Times are seconds since 1970-01-01T00:00:00Z. Dates
  * are those from 1970 to 9999: an input with an earlier one, which UTCTime has from 1950 on (RFC 5280 4.1.2.5.1), is X509_MALFORMED.
@@ -50,6 +50,8 @@ typedef int x509_status;
 #define X509_REPEATED 7
 /* A certificate of a path has a fault. */
 #define X509_FAULT 8
+/* More would be tried than is allowed. */
+#define X509_LIMIT 9
 
 /* Profiles: the rules of RFC 5280, or none beyond the grammar. */
 #define X509_RFC5280 0
@@ -603,6 +605,54 @@ x509_status x509_status_text(x509_status status, uint8_t *out, size_t room, size
 #define X509_VERSION 0x000100
 uint32_t x509_version(void);
 
+/* ---- names of the peer */
+
+/* What the text of a server's name is (RFC 9525 2). */
+typedef struct {
+    size_t name_len;      /* a DNS name: it is the first so many bytes of the text, which are all but a dot at its end; 0 of an address */
+    uint32_t address_len; /* an IP address: how many octets it has, 4 or 16; 0 of a DNS name */
+    uint8_t address[16];  /* these octets, in network byte order, and zeros behind them */
+} x509_server_name;
+
+/* Where the parts of an address of e-mail stand in its text. */
+typedef struct {
+    x509_span local; /* the local part, in front of the last '@' */
+    x509_span host;  /* the DNS name behind it */
+} x509_email_address;
+
+/* Reads the text of a server's name (ASCII, no zero at the end). It is
+ * - a DNS name: labels with dots between them, in all at most 253 bytes. A label is 1 to 63 letters, digits, '-' and '_', and neither begins nor ends with '-'
+ *   (RFC 1034 3.5, RFC 1123 2.1). The last label isn't digits alone. One dot at the end, that of the root, is taken off. Internationalized labels are A-labels,
+ *   such as "xn--bcher-kva";
+ * - or an IPv4 address, four decimal numbers below 256 without leading zeros; or an IPv6 address (RFC 4291 2.2), which may stand in brackets.
+ * X509_VALUE where it is none of these. It takes no memory.
+ * Answers X509_OK, X509_VALUE. */
+x509_status x509_server_name_view(const uint8_t *text, size_t len, x509_server_name *name);
+
+/* Reads the text of an address of e-mail (ASCII, no zero at the end): a local part, '@', and a DNS name as above without a dot at its end. The local part is
+ * one or more printed characters and spaces without quotes and backslashes, or a quoted string (RFC 5321 4.1.2). X509_VALUE where it is none. It takes no
+ * memory.
+ * Answers X509_OK, X509_VALUE. */
+x509_status x509_email_address_view(const uint8_t *text, size_t len, x509_email_address *address);
+
+/* Checks a certificate under RFC 5280, and says whether it is that of the server with this name (RFC 9525 6): `*matches` is 1 where its SubjectAltName has a name
+ * of the server, else 0. The name is a text as x509_server_name_view reads it.
+ * - A dNSName names a host where both are the same without regard to the case of ASCII. One that begins with "*." and has two labels or more behind it names
+ *   each host that has these behind one label: "*.example.org" names "a.example.org", and neither "a.b.example.org" nor "example.org". A '*' elsewhere stands
+ *   for nothing.
+ * - An iPAddress names a host where both have the same octets.
+ * Nothing else names a server, nor does the common name of the subject. A certificate without a SubjectAltName, with two, or with one that can't be decoded
+ * names none. WHETHER THE CERTIFICATE IS TO BE TRUSTED is asked by x509_path_validate. It takes no memory.
+ * X509_VALUE where the bytes are a certificate and the text is no server's name.
+ * Answers X509_OK, X509_OVERLENGTH, X509_MALFORMED, X509_VALUE. */
+x509_status x509_certificate_matches_name(const uint8_t *in, size_t len, const uint8_t *name, size_t name_len, uint32_t *matches);
+
+/* The same of the mailbox with this address of e-mail, a text as x509_email_address_view reads it: `*matches` is 1 where the SubjectAltName has an rfc822Name
+ * with the same local part, byte for byte, and the same host without regard to the case of ASCII (RFC 5280 7.5), else 0. An address in the subject names
+ * nothing.
+ * Answers X509_OK, X509_OVERLENGTH, X509_MALFORMED, X509_VALUE. */
+x509_status x509_certificate_matches_email(const uint8_t *in, size_t len, const uint8_t *address, size_t address_len, uint32_t *matches);
+
 /* ---- paths */
 
 /* What is to be verified of a certificate: that these bits are a signature of the signed part, by that algorithm, for the public key of the
@@ -626,7 +676,8 @@ x509_status x509_certificate_signature(const uint8_t *in, size_t len, x509_signa
 #define X509_PATH_ALGORITHM 2
 /* The issuer isn't the subject of the certificate above, byte for byte. */
 #define X509_PATH_ISSUER 3
-/* The time is before the first or after the last second of the validity. */
+/* The time is before the first or after the last second of the validity. x509_certificate_view tells on which side: before `not_before` the certificate isn't
+ * valid yet, else it has expired. */
 #define X509_PATH_MOMENT 4
 /* The signature isn't accepted. x509_path_check never answers it: it is for the caller, who verifies signatures. */
 #define X509_PATH_SIGNATURE 5
@@ -779,6 +830,49 @@ x509_status x509_path_validate_under_anchor(const uint8_t *anchor, size_t anchor
                                             const x509_path_settings *settings, size_t settings_size, uint8_t *out, size_t room,
                                             x509_path_answer *answer);
 
+/* A certificate, and a key under which its signature doesn't hold: where each stands in the bytes that are handed over with them. */
+typedef struct {
+    x509_span certificate; /* a whole certificate */
+    x509_span key;         /* a whole SubjectPublicKeyInfo, as it is used: what x509_working_key gives of the key above the certificate, where that inherits its
+                            * parameters; the caller puts such a one behind the certificates */
+} x509_bad_link;
+
+/* A path that was found, or one that isn't valid where there is none. */
+typedef struct {
+    size_t anchor;   /* the index of the anchor in `anchors`; of several that are trusted for the same, the first */
+    size_t count;    /* how many candidates stand in the path, whether their indices fit into the buffer or not */
+    size_t place;    /* after X509_FAULT the index of the certificate in the path that has a fault, from 0; `count` is that of the leaf; else 0 */
+    uint32_t reason; /* after X509_FAULT one of X509_PATH_DECODE to X509_PATH_VERSION, or 0 where the name constraints of the anchor or of the caller can't be
+                      * used; else 0 */
+} x509_found_path;
+
+/* Finds a path from one of the anchors over candidates to a certificate, the leaf: one that x509_path_validate accepts under the anchor's certificate, of any
+ * of the candidates, in any number and order, none of them twice nor the leaf itself, and at most `max_depth` of them (8 do for most). No valid path has fewer
+ * certificates. BUT NOT THE SIGNATURES: any bits are taken for the signature of a certificate under the key above it, unless the two are listed in `bad`. So
+ * the caller verifies the signatures of the path that is found, as x509_path_check says. Where one doesn't hold, the caller adds the certificate and the key to
+ * `bad`, and asks again; each round adds one that wasn't there, so that it ends, with a path whose signatures hold, or with another answer. Without that X509_OK
+ * gives no security. Nothing is kept between the calls.
+ *
+ * All certificates, and the keys of `bad`, are parts of bytes[0..len). What is trusted of an anchor x509_path_validate says, and `name_constraints`,
+ * `policies`, `settings` and `settings_size` are as there. Candidates that are no certificates are passed over. The indices of the candidates in the path,
+ * topmost first, without the leaf, are put into path[0..room) where they fit, which `max_depth` of them always do; of several candidates with the same bytes
+ * the first is told. Which policies the path is valid under says x509_path_validate.
+ *
+ * X509_VALUE where there are no settings, as x509_path_validate says, or `max_depth` is more than 255; X509_FAILED where a part isn't within the bytes, or an
+ * anchor's subject is empty or it has one of the extensions that are followed more than once; X509_OVERLENGTH or X509_MALFORMED where decoding an anchor, one of
+ * its extensions, the leaf, a certificate or a key of `bad`, the name constraints or the policies answers that; where several of these are bad, any of their
+ * answers may come. Else X509_OK where there is such a path. Else X509_ABSENT where no candidates lead by their names from an anchor to the leaf: an issuer
+ * isn't known. Else X509_FAULT: there is no such path, and what is told is one that leads there by its names, with a fault that it has; of those it is one that
+ * has the fewest certificates left from the fault on. Its fault is the first at the lowest place that has one other than a signature's, or X509_PATH_SIGNATURE
+ * of a certificate that is listed in `bad` with the key above it. In the place of the last three answers X509_LIMIT, where more than 200,000 candidates would be
+ * put above others or more than 1,000 paths validated: whether there is a path isn't known. `*found` and path[0..room) are unchanged unless the answer is X509_OK
+ * or X509_FAULT.
+ * Answers X509_OK, X509_MEMORY, X509_OVERLENGTH, X509_MALFORMED, X509_FAILED, X509_VALUE, X509_ABSENT, X509_FAULT, X509_LIMIT. */
+x509_status x509_path_find(const uint8_t *bytes, size_t len, const x509_span *anchors, size_t anchor_count, const x509_span *candidates, size_t candidate_count,
+                           const x509_span *leaf, const x509_bad_link *bad, size_t bad_count, const uint8_t *name_constraints, size_t name_constraints_len,
+                           const uint8_t *policies, size_t policies_len, const x509_path_settings *settings, size_t settings_size, uint32_t max_depth,
+                           size_t *path, size_t room, x509_found_path *found);
+
 /* ---- CRLs */
 
 /* Checks a CRL of v1 or v2 under RFC 5280, and says how many entries it has. It takes no memory.
@@ -908,6 +1002,46 @@ typedef struct {
  * Answers X509_OK, X509_MEMORY, X509_OVERLENGTH, X509_MALFORMED, X509_FAILED, X509_VALUE. */
 x509_status x509_revocation_status(const uint8_t *certificate, size_t certificate_len, const uint8_t *in, size_t len, const x509_signed_crl *crls, size_t count,
                                    const x509_revocation_settings *settings, size_t settings_size, x509_revocation_answer *answer);
+
+/* Why a CRL says nothing of a certificate, in the order in which it is asked. 0: it says of one reason or more whether the certificate is revoked. */
+#define X509_CRL_WITHOUT_FAULT 0
+/* The moment is before its thisUpdate (RFC 5280 5.1.2.4). */
+#define X509_CRL_NOT_YET_VALID 1
+/* The moment is after its nextUpdate, or it has none, and the settings don't take such a CRL (5.1.2.5). */
+#define X509_CRL_EXPIRED 2
+/* It has a critical extension that isn't an IssuingDistributionPoint or a delta CRL indicator, or can't be decoded (5.2). */
+#define X509_CRL_CRITICAL 3
+/* The algorithm in its signed part isn't the one outside it (5.1.1.2). */
+#define X509_CRL_ALGORITHM 4
+/* It is a delta CRL, which says nothing but with a complete one (5.2.4). */
+#define X509_CRL_DELTA 5
+/* It has an IssuingDistributionPoint that can't be decoded, or several (5.2.5). */
+#define X509_CRL_ISSUING_POINT 6
+/* Its issuer isn't the certificate's, nor in the cRLIssuer of a distribution point for which it is an indirect CRL (6.3.3 (b) (1)). */
+#define X509_CRL_ISSUER 7
+/* Its IssuingDistributionPoint says that it isn't about such certificates, but about those of authorities alone, say (6.3.3 (b) (2) (ii) to (iv)). */
+#define X509_CRL_SCOPE 8
+/* It is that of none of the certificate's distribution points, or for none of the reasons there (6.3.3 (b) (2) (i), (d)). */
+#define X509_CRL_POINT 9
+/* The signer's name isn't its issuer (6.3.3 (f)). */
+#define X509_CRL_SIGNER 10
+/* `verified` isn't 1 (6.3.3 (g)). */
+#define X509_CRL_SIGNATURE 11
+/* An entry has a critical extension that isn't known or can't be decoded, or a CertificateIssuer that can't be used (5.3). */
+#define X509_CRL_ENTRY 12
+/* A newer CRL for the same scope takes its place (6.3.3 (a)). */
+#define X509_CRL_REPLACED 13
+
+/* Says why the CRL at `index` of `crls`, from 0, says nothing of a certificate: `*fault` is the first of the numbers above that there is of it, beside those
+ * that are verified. All else is given as to x509_revocation_status, after which it may be asked of each CRL, above all where the status is X509_UNDETERMINED.
+ * The CRL itself may be one that isn't verified. One without a fault isn't used there only where those before it left no reason that it covers (6.3.3 (e)); of
+ * a delta CRL it isn't said to which complete one it fits.
+ *
+ * X509_VALUE also where no CRL is at `index`; of the CRL there, verified or not, X509_FAILED where a part isn't within the bytes, and X509_OVERLENGTH or
+ * X509_MALFORMED where decoding the CRL, the name or the key answers that; else as said of x509_revocation_status.
+ * Answers X509_OK, X509_MEMORY, X509_OVERLENGTH, X509_MALFORMED, X509_FAILED, X509_VALUE. */
+x509_status x509_crl_fault(const uint8_t *certificate, size_t certificate_len, const uint8_t *in, size_t len, const x509_signed_crl *crls, size_t count,
+                           const x509_revocation_settings *settings, size_t settings_size, size_t index, uint32_t *fault);
 
 /* ---- CSRs (PKCS #10 requests) */
 
@@ -1205,6 +1339,59 @@ x509_status x509_timestamp_signed_data_beside(const uint8_t *timestamp, size_t t
  * Answers X509_OK, X509_ROOM, X509_MEMORY, X509_OVERLENGTH, X509_MALFORMED, X509_ABSENT, X509_REPEATED. */
 x509_status x509_logged_part(const uint8_t *certificate, size_t certificate_len, uint8_t *out, size_t room, size_t *written);
 x509_status x509_logged_precertificate(const uint8_t *precertificate, size_t precertificate_len, uint8_t *out, size_t room, size_t *written);
+
+/* The same of a precertificate that a precertificate signing certificate signed (RFC 6962 3.1; its extended key usage has 1.3.6.1.4.1.11129.2.4.4): without
+ * the poison, with the issuer of the signing certificate, and, where the precertificate has an authority key identifier (2.5.29.35), with the value that this
+ * extension has in the signing certificate (3.2); all else byte for byte as it stands. Whether that certificate is one, and signed the precertificate, isn't
+ * looked at. X509_ABSENT where the precertificate hasn't the poison, or has one authority key identifier and the signing certificate none; X509_REPEATED where
+ * the precertificate has either of the two extensions twice or more, or has an authority key identifier, and the signing certificate two or more; nothing is
+ * written then. X509_MALFORMED where one of them is no certificate under RFC 5280, X509_OVERLENGTH where one is longer than x509_check takes, or what is to be
+ * written is. Rooms are as said under whole values.
+ * Answers X509_OK, X509_ROOM, X509_MEMORY, X509_OVERLENGTH, X509_MALFORMED, X509_ABSENT, X509_REPEATED. */
+x509_status x509_logged_precertificate_signed_by(const uint8_t *precertificate, size_t precertificate_len, const uint8_t *signing, size_t signing_len,
+                                                 uint8_t *out, size_t room, size_t *written);
+
+/* The entries of logs (RFC 6962 3.4, 4.6), and what is signed of their trees. A log's JSON has these bytes in base64. Places are offsets in `in`. */
+
+typedef struct {
+    uint32_t version;           /* 0, which is v1 */
+    uint32_t leaf_type;         /* 0, timestamped_entry */
+    uint64_t timestamp;         /* milliseconds since 1970-01-01T00:00:00Z */
+    uint32_t entry_type;        /* 0, x509_entry, or 1, precert_entry */
+    x509_span issuer_key_hash;  /* of a precertificate the SHA-256 digest of its issuer's key, 32 bytes; of a certificate empty, at 0 */
+    x509_span certificate;      /* the certificate; of a precertificate its TBSCertificate, as x509_logged_part writes it */
+    x509_span extensions;       /* the bytes of extensions, of which v1 has none */
+} x509_log_leaf;
+
+/* Decodes a leaf of a log's tree, a MerkleTreeLeaf (RFC 6962 3.4): `leaf_input` of get-entries. What the certificate says isn't looked at.
+ * x509_merkle_leaf_hash of the same bytes is the hash by which the leaf is in the tree. X509_MALFORMED where it isn't one of version 1, of a certificate or a
+ * precertificate, with nothing behind it; then the view is as it was.
+ * Answers X509_OK, X509_MEMORY, X509_MALFORMED. */
+x509_status x509_log_leaf_view(const uint8_t *in, size_t len, x509_log_leaf *view);
+
+typedef struct {
+    x509_span precertificate; /* the precertificate that was submitted */
+    x509_span chain;          /* its chain, as x509_log_chain_next takes it: the issuer of the precertificate first */
+} x509_log_precertificate;
+
+/* Decodes what a log gives beside the entry of a precertificate, a PrecertChainEntry (RFC 6962 3.1): `extra_data` of get-entries, where the leaf is of entry
+ * type 1. X509_MALFORMED where it isn't one, with nothing behind it; then the view is as it was.
+ * Answers X509_OK, X509_MEMORY, X509_MALFORMED. */
+x509_status x509_log_precertificate_view(const uint8_t *in, size_t len, x509_log_precertificate *view);
+
+/* Steps over the certificates of a chain, ASN.1Cert<0..2^24-1> (RFC 6962 3.1): `extra_data` of get-entries, where the leaf is of entry type 0, and the chain of
+ * a precertificate. `*at` is 0 to begin; X509_OK fills in where the next certificate stands, without its length, and moves `*at` behind it. X509_ABSENT at the
+ * end. X509_MALFORMED where the bytes are no such chain, where `*at` is neither 0 nor a place in it, or where no certificate of a byte or more stands there.
+ * What the certificate says isn't looked at. It takes no memory.
+ * Answers X509_OK, X509_MALFORMED, X509_ABSENT. */
+x509_status x509_log_chain_next(const uint8_t *in, size_t len, size_t *at, x509_span *found);
+
+/* Writes what the signature of a tree head is over, a TreeHeadSignature of version 1 (RFC 6962 3.5), of what get-sth gives (4.3): the timestamp in milliseconds,
+ * the size of the tree and its root hash. The caller verifies it with the log's key. X509_MALFORMED where the hash hasn't 32 bytes. Rooms are as said under
+ * whole values.
+ * Answers X509_OK, X509_ROOM, X509_MEMORY, X509_MALFORMED. */
+x509_status x509_tree_head_signed_data(uint64_t timestamp, uint64_t tree_size, const uint8_t *root_hash, size_t root_hash_len, uint8_t *out, size_t room,
+                                       size_t *written);
 
 /* Proofs of the trees of logs (RFC 6962 2.1), over SHA-256. A hash has 32 bytes; those of a path and of a proof stand one behind the other, as a log gives
  * them. What is hashed of an entry is its MerkleTreeLeaf (3.4). */

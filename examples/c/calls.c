@@ -167,6 +167,75 @@ static void signatures(void)
     WANT(signature.bits.place == place && signature.bits.len == certificate_len - place);
 }
 
+/* What a text of a server's name is: how long a DNS name, or how many octets an address has; 0 where it is refused. */
+static size_t server_name(const char *text, size_t len)
+{
+    x509_server_name name = {7, 7, {7, 7}};
+    const x509_status status = x509_server_name_view((const uint8_t *)text, len, &name);
+    if (status != X509_OK) {
+        WANT(status == X509_VALUE && name.name_len == 7 && name.address_len == 7 && name.address[1] == 7 && name.address[2] == 0);
+        return 0;
+    }
+    WANT((name.name_len == 0) == (name.address_len != 0) && name.name_len <= len);
+    WANT(name.address_len == 0 || name.address_len == 4 || name.address_len == 16);
+    for (size_t at = name.address_len; at < sizeof name.address; at++)
+        WANT(name.address[at] == 0);
+    return name.name_len + name.address_len;
+}
+
+#define SERVER(text) server_name(text, sizeof(text) - 1)
+
+/* Whether the certificate is that of a server or a mailbox; 7 where the text is refused. */
+static uint32_t is_of(x509_status (*ask)(const uint8_t *, size_t, const uint8_t *, size_t, uint32_t *), const char *text)
+{
+    uint32_t matches = 7;
+    const x509_status status = ask(certificate, certificate_len, (const uint8_t *)text, strlen(text), &matches);
+    WANT(status == X509_OK ? matches <= 1 : status == X509_VALUE && matches == 7);
+    return matches;
+}
+
+/* The certificate's names are www.example.org, example.org, post@example.org and 192.0.2.7; its common name is the first of them. */
+static void names_of_peers(void)
+{
+    x509_server_name name = {7, 7, {7, 7}};
+    WANT(x509_server_name_view(BYTES("[2001:DB8::192.0.2.7]"), &name) == X509_OK && name.name_len == 0 && name.address_len == 16);
+    WANT(memcmp(name.address, "\x20\x01\x0d\xb8\0\0\0\0\0\0\0\0\xc0\0\x02\x07", 16) == 0);
+    WANT(x509_server_name_view(BYTES("192.0.2.7"), &name) == X509_OK && name.address_len == 4 && memcmp(name.address, "\xc0\0\x02\x07\0", 5) == 0);
+    WANT(SERVER("example.org") == 11 && SERVER("Example.ORG.") == 11 && SERVER("localhost") == 9 && SERVER("_a.xn--bcher-kva") == 16);
+    WANT(SERVER("::") == 16 && SERVER("[::1]") == 16 && SERVER("1:2:3:4:5:6:7:8") == 16 && SERVER("::ffff:1.2.3.4") == 16);
+    WANT(SERVER("") == 0 && SERVER(".") == 0 && SERVER(".a") == 0 && SERVER("a..b") == 0 && SERVER("a..") == 0 && SERVER("-a.b") == 0 && SERVER("a-.b") == 0);
+    WANT(SERVER("*.example.org") == 0 && SERVER("a b") == 0 && SERVER("b\xc3\xbc" "cher") == 0 && SERVER("a\0b") == 0 && SERVER("a.1") == 0 && SERVER("1") == 0);
+    WANT(SERVER("192.0.2.07") == 0 && SERVER("192.0.2.256") == 0 && SERVER("192.0.2") == 0 && SERVER("192.0.2.7.") == 0 && SERVER("[192.0.2.7]") == 0);
+    WANT(SERVER("1:2:3:4:5:6:7") == 0 && SERVER("1::2::3") == 0 && SERVER("::12345") == 0 && SERVER("[::") == 0 && SERVER("::1%1") == 0 && SERVER("[::1]:443") == 0);
+    /* 63 octets in a label, and 253 in all */
+    char text[256];
+    memset(text, 'a', sizeof text);
+    WANT(server_name(text, 63) == 63 && server_name(text, 64) == 0);
+    text[63] = text[127] = text[191] = '.';
+    WANT(server_name(text, 253) == 253 && server_name(text, 254) == 0);
+    text[253] = '.';
+    WANT(server_name(text, 254) == 253);
+
+    x509_email_address address = {{7, 7}, {7, 7}};
+    WANT(x509_email_address_view(nothing, 0, &address) == X509_VALUE && address.local.place == 7 && address.host.len == 7);
+    WANT(x509_email_address_view(BYTES("@example.org"), &address) == X509_VALUE && x509_email_address_view(BYTES("a@"), &address) == X509_VALUE);
+    WANT(x509_email_address_view(BYTES("a\"@example.org"), &address) == X509_VALUE && x509_email_address_view(BYTES("a@b."), &address) == X509_VALUE);
+    WANT(x509_email_address_view(BYTES("a@192.0.2.7"), &address) == X509_VALUE && address.local.len == 7);
+    WANT(x509_email_address_view(BYTES("\"a@b\"@example.org"), &address) == X509_OK);
+    WANT(address.local.place == 0 && address.local.len == 5 && address.host.place == 6 && address.host.len == 11);
+
+    uint32_t matches = 7;
+    WANT(x509_certificate_matches_name(nothing, 0, BYTES("example.org"), &matches) == X509_MALFORMED && matches == 7);
+    WANT(x509_certificate_matches_name(certificate, certificate_len - 1, nothing, 0, &matches) == X509_MALFORMED && matches == 7);
+    WANT(x509_certificate_matches_email(list, list_len, BYTES("post@example.org"), &matches) == X509_MALFORMED && matches == 7);
+    WANT(is_of(x509_certificate_matches_name, "EXAMPLE.org.") == 1 && is_of(x509_certificate_matches_name, "www.example.org") == 1);
+    WANT(is_of(x509_certificate_matches_name, "192.0.2.7") == 1 && is_of(x509_certificate_matches_name, "192.0.2.8") == 0);
+    WANT(is_of(x509_certificate_matches_name, "a.example.org") == 0 && is_of(x509_certificate_matches_name, "org") == 0);
+    WANT(is_of(x509_certificate_matches_name, "::ffff:192.0.2.7") == 0 && is_of(x509_certificate_matches_name, "post@example.org") == 7);
+    WANT(is_of(x509_certificate_matches_email, "post@EXAMPLE.org") == 1 && is_of(x509_certificate_matches_email, "Post@example.org") == 0);
+    WANT(is_of(x509_certificate_matches_email, "post@www.example.org") == 0 && is_of(x509_certificate_matches_email, "example.org") == 7);
+}
+
 /* Whether the first certificate of a path has that fault, under the certificate of the examples and in its first second. */
 static int has_fault(const uint8_t *path, size_t len, size_t count, uint32_t reason)
 {
@@ -419,6 +488,103 @@ static void long_paths(void)
     WANT(is_fault(x509_path_validate(BYTES(authority), path, sizeof path, lens, COUNT, PLAINLY(now)), &answer, 4, X509_PATH_EXTENSION));
 }
 
+/* Certificates by hand, from 1970 to 9999, without a path length constraint: a number, the names of issuer and subject, the OID of the key's algorithm, which
+ * alone tells one key from another, and whether it is an authority's. */
+#define OTHER_NAME "\x30\x0c\x31\x0a\x30\x08\x06\x03\x55\x04\x03\x0c\x01" "b"
+#define BY_HAND(number, issuer, subject, key) "\x30\x76\x30\x6a\xa0\x03\x02\x01\x02\x02\x01" number "\x30\x03\x06\x01\x2a" issuer \
+    "\x30\x20\x17\x0d" "700101000000Z" "\x18\x0f" "99991231235959Z" subject "\x30\x08\x30\x03\x06\x01" key "\x03\x01\x00" \
+    "\xa3\x13\x30\x11\x30\x0f\x06\x03\x55\x1d\x13\x01\x01\xff\x04\x05\x30\x03\x01\x01\xff" "\x30\x03\x06\x01\x2a\x03\x03\x00\xab\xcd"
+enum { BY_HAND_LEN = 0x78, KEY_PLACE = 79, KEY_LEN = 10 };
+
+static const x509_found_path UNFOUND_PATH = {7, 7, 7, 7};
+
+static int is_path(x509_found_path found, size_t anchor, size_t count, size_t place, uint32_t reason)
+{
+    return found.anchor == anchor && found.count == count && found.place == place && found.reason == reason;
+}
+
+/* What is said in the middle to a call that finds: no constraints, any policies, and settings. */
+#define FOR(settings) NULL, 0, NULL, 0, &(settings), sizeof(settings)
+
+/* A leaf that two authorities of one name and two keys may have issued, one of which is there twice, and a certificate of another. */
+static void found_paths(void)
+{
+    static const char whole[] = BY_HAND("\x01", NAME, NAME, "\x2a") BY_HAND("\x02", NAME, OTHER_NAME, "\x2b") BY_HAND("\x03", NAME, OTHER_NAME, "\x2c")
+                                BY_HAND("\x04", OTHER_NAME, NAME, "\x2d");
+    const uint8_t *const bytes = (const uint8_t *)whole;
+    const size_t len = sizeof whole - 1;
+    const x509_span root = {0, BY_HAND_LEN}, leaf = {3 * BY_HAND_LEN, BY_HAND_LEN}, outside = {len, 1}, none = {0, 0};
+    const x509_span authorities[] = {none, {BY_HAND_LEN, BY_HAND_LEN}, {2 * BY_HAND_LEN, BY_HAND_LEN}, {BY_HAND_LEN, BY_HAND_LEN}};
+    const x509_span anchors[] = {authorities[1], root, root};
+    const x509_path_settings now = {.moment = 1767323045}, before = {.moment = 0, .flags = X509_PATH_EXPLICIT_POLICY}, unknown = {.flags = 32};
+    x509_found_path found = UNFOUND_PATH;
+    size_t path[2] = {7, 7};
+    WANT(len == 4 * BY_HAND_LEN);
+
+    /* straight under an authority that is trusted, and under the root */
+    WANT(x509_path_find(bytes, len, anchors, 3, authorities, 4, &leaf, NULL, 0, FOR(now), 8, path, 2, &found) == X509_OK);
+    WANT(is_path(found, 0, 0, 0, 0) && path[0] == 7);
+    WANT(x509_path_find(bytes, len, anchors + 1, 2, authorities, 4, &leaf, NULL, 0, FOR(now), 1, path, 2, &found) == X509_OK);
+    WANT(is_path(found, 0, 1, 0, 0) && (path[0] == 1 || path[0] == 2) && path[1] == 7);
+    const size_t first = path[0];
+    path[0] = 7;
+    WANT(x509_path_find(bytes, len, &root, 1, authorities, 4, &leaf, NULL, 0, FOR(now), 1, NULL, 0, &found) == X509_OK && is_path(found, 0, 1, 0, 0));
+
+    /* the leaf wasn't signed with that key, nor with the other one */
+    x509_bad_link bad[] = {{leaf, {authorities[first].place + KEY_PLACE, KEY_LEN}}, {leaf, {authorities[3 - first].place + KEY_PLACE, KEY_LEN}}};
+    WANT(x509_path_find(bytes, len, &root, 1, authorities, 4, &leaf, bad, 1, FOR(now), 8, path, 2, &found) == X509_OK);
+    WANT(is_path(found, 0, 1, 0, 0) && path[0] == 3 - first);
+    WANT(x509_path_find(bytes, len, &root, 1, authorities, 4, &leaf, bad, 2, FOR(now), 8, path, 2, &found) == X509_FAULT);
+    WANT(is_path(found, 0, 1, 1, X509_PATH_SIGNATURE) && (path[0] == 1 || path[0] == 2));
+
+    /* a fault, and constraints that can't be used */
+    WANT(x509_path_find(bytes, len, &root, 1, authorities, 4, &leaf, NULL, 0, FOR(before), 8, path, 2, &found) == X509_FAULT);
+    WANT(is_path(found, 0, 1, 0, X509_PATH_POLICY));
+    WANT(x509_path_find(bytes, len, &root, 1, authorities, 4, &leaf, NULL, 0, BYTES(UNUSABLE), NULL, 0, &now, sizeof now, 8, path, 2, &found) == X509_FAULT);
+    WANT(is_path(found, 0, 1, 0, 0));
+
+    /* no authorities, too few that are allowed, and no anchors */
+    found = UNFOUND_PATH;
+    path[0] = 7;
+    WANT(x509_path_find(bytes, len, &root, 1, NULL, 0, &leaf, NULL, 0, FOR(now), 8, path, 2, &found) == X509_ABSENT);
+    WANT(x509_path_find(bytes, len, &root, 1, authorities, 4, &leaf, NULL, 0, FOR(now), 0, path, 2, &found) == X509_ABSENT);
+    WANT(x509_path_find(bytes, len, NULL, 0, authorities, 4, &leaf, NULL, 0, FOR(now), 8, path, 2, &found) == X509_ABSENT);
+
+    /* parts that lie elsewhere, or are none */
+    const x509_bad_link others[] = {{outside, bad[0].key}, {leaf, outside}, {none, bad[0].key}, {leaf, none}};
+    WANT(x509_path_find(bytes, len, &outside, 1, authorities, 4, &leaf, NULL, 0, FOR(now), 8, path, 2, &found) == X509_FAILED);
+    WANT(x509_path_find(bytes, len, &root, 1, &outside, 1, &leaf, NULL, 0, FOR(now), 8, path, 2, &found) == X509_FAILED);
+    WANT(x509_path_find(bytes, len, &root, 1, authorities, 4, &outside, NULL, 0, FOR(now), 8, path, 2, &found) == X509_FAILED);
+    WANT(x509_path_find(bytes, len, &root, 1, authorities, 4, &leaf, others, 1, FOR(now), 8, path, 2, &found) == X509_FAILED);
+    WANT(x509_path_find(bytes, len, &root, 1, authorities, 4, &leaf, others + 1, 1, FOR(now), 8, path, 2, &found) == X509_FAILED);
+    WANT(x509_path_find(bytes, len, &none, 1, authorities, 4, &leaf, NULL, 0, FOR(now), 8, path, 2, &found) == X509_MALFORMED);
+    WANT(x509_path_find(bytes, len, &root, 1, authorities, 4, &none, NULL, 0, FOR(now), 8, path, 2, &found) == X509_MALFORMED);
+    WANT(x509_path_find(bytes, len, &root, 1, authorities, 4, &leaf, others + 2, 1, FOR(now), 8, path, 2, &found) == X509_MALFORMED);
+    WANT(x509_path_find(bytes, len, &root, 1, authorities, 4, &leaf, others + 3, 1, FOR(now), 8, path, 2, &found) == X509_MALFORMED);
+    WANT(x509_path_find(bytes, len, &root, 1, authorities, 4, &leaf, NULL, 0, FOR(unknown), 8, path, 2, &found) == X509_VALUE);
+    WANT(x509_path_find(bytes, len, &root, 1, authorities, 4, &leaf, NULL, 0, FOR(now), 256, path, 2, &found) == X509_VALUE);
+    WANT(is_path(found, 7, 7, 7, 7) && path[0] == 7 && path[1] == 7);
+}
+
+/* Ten authorities of one name: more paths lead over them than are validated, and none is valid where a policy is asked for. */
+static void paths_beyond_limits(void)
+{
+    static const char authority[] = BY_HAND("\x01", NAME, NAME, "\x2a");
+    enum { COUNT = 10 };
+    static uint8_t bytes[(COUNT + 1) * BY_HAND_LEN];
+    x509_span all[COUNT + 1];
+    for (int at = 0; at <= COUNT; at++) {
+        memcpy(bytes + at * BY_HAND_LEN, authority, BY_HAND_LEN);
+        bytes[at * BY_HAND_LEN + 11] = (uint8_t)(at + 1); /* its number */
+        all[at] = (x509_span){(size_t)at * BY_HAND_LEN, BY_HAND_LEN};
+    }
+    const x509_path_settings asked = {.moment = 1767323045, .flags = X509_PATH_EXPLICIT_POLICY};
+    x509_found_path found = UNFOUND_PATH;
+    WANT(x509_path_find(bytes, sizeof bytes, all, 1, all, COUNT, all + COUNT, NULL, 0, FOR(asked), 8, NULL, 0, &found) == X509_LIMIT);
+    WANT(is_path(found, 7, 7, 7, 7));
+    WANT(x509_path_find(bytes, sizeof bytes, all, 1, all, COUNT, all + COUNT, NULL, 0, FOR(asked), 1, NULL, 0, &found) == X509_FAULT);
+}
+
 static void lists(void)
 {
     size_t entries = 77;
@@ -639,6 +805,63 @@ static void refused_statuses(void)
     WANT(asked_status(&other, 1, settings, &answer) == X509_MALFORMED && is_unanswered(&answer));
 }
 
+/* The fault of the CRL at that index, at that time; 77 where the call answers anything but X509_OK. */
+static uint32_t fault_of(const x509_signed_crl *crls, size_t count, uint64_t moment, size_t index)
+{
+    const x509_revocation_settings settings = {moment, 0};
+    uint32_t fault = 7;
+    const x509_status status = x509_crl_fault(certificate, certificate_len, signed_list, signed_list_len, crls, count, &settings, sizeof settings, index, &fault);
+    return status == X509_OK ? fault : 77;
+}
+
+/* What stands against the list of examples/data/make.py, in date from 2026-02-01T00:00:00Z to 2026-03-01T00:00:00Z. */
+static void faults_of_lists(void)
+{
+    enum { FROM = 1769904000, TO = 1772323200 };
+    const x509_signed_crl given = sign_list();
+    x509_signed_crl two[2] = {given, given};
+    WANT(fault_of(&given, 1, FROM, 0) == X509_CRL_WITHOUT_FAULT && fault_of(&given, 1, TO, 0) == X509_CRL_WITHOUT_FAULT);
+    WANT(fault_of(&given, 1, FROM - 1, 0) == X509_CRL_NOT_YET_VALID && fault_of(&given, 1, TO + 1, 0) == X509_CRL_EXPIRED);
+    two[1].verified = 2;
+    WANT(fault_of(two, 2, FROM, 0) == X509_CRL_WITHOUT_FAULT && fault_of(two, 2, FROM, 1) == X509_CRL_SIGNATURE);
+    WANT(fault_of(two, 2, TO + 1, 1) == X509_CRL_EXPIRED);
+    /* another name than the issuer's; then another issuer of the list, too, which isn't that of the certificate */
+    x509_crl view;
+    if (x509_crl_view(list, list_len, &view) != X509_OK)
+        exit(2);
+    signed_list[given.name.place + given.name.len - 1] ^= 1;
+    WANT(fault_of(&given, 1, FROM, 0) == X509_CRL_SIGNER);
+    signed_list[given.crl.place + view.issuer.place + view.issuer.len - 1] ^= 1;
+    WANT(fault_of(&given, 1, FROM, 0) == X509_CRL_ISSUER);
+    sign_list();
+}
+
+static void refused_faults(void)
+{
+    enum { FROM = 1769904000 };
+    const x509_signed_crl given = sign_list();
+    const x509_revocation_settings settings = {FROM, 0};
+    x509_signed_crl two[2] = {given, given};
+    uint32_t fault = 7;
+#define FAULT_AT(index, size) signed_list, signed_list_len, two, 2, &settings, size, index, &fault
+    WANT(x509_crl_fault(certificate, certificate_len, FAULT_AT(1, sizeof settings)) == X509_OK && fault == X509_CRL_WITHOUT_FAULT);
+    fault = 7;
+    WANT(x509_crl_fault(certificate, certificate_len, FAULT_AT(2, sizeof settings)) == X509_VALUE && fault == 7);
+    WANT(x509_crl_fault(certificate, certificate_len, FAULT_AT(SIZE_MAX, sizeof settings)) == X509_VALUE && fault == 7);
+    WANT(x509_crl_fault(certificate, certificate_len, FAULT_AT(0, sizeof settings - 1)) == X509_VALUE && fault == 7);
+    WANT(x509_crl_fault(list, list_len, FAULT_AT(0, sizeof settings)) == X509_MALFORMED && fault == 7);
+    /* the CRL that is asked about has to be one, verified or not, and so have those that are verified */
+    two[1].crl.len--;
+    WANT(x509_crl_fault(certificate, certificate_len, FAULT_AT(0, sizeof settings)) == X509_MALFORMED && fault == 7);
+    two[1].verified = 0;
+    WANT(x509_crl_fault(certificate, certificate_len, FAULT_AT(0, sizeof settings)) == X509_OK && fault == X509_CRL_WITHOUT_FAULT);
+    fault = 7;
+    WANT(x509_crl_fault(certificate, certificate_len, FAULT_AT(1, sizeof settings)) == X509_MALFORMED && fault == 7);
+    two[1].key = (x509_span){SIZE_MAX, 2};
+    WANT(x509_crl_fault(certificate, certificate_len, FAULT_AT(1, sizeof settings)) == X509_FAILED && fault == 7);
+#undef FAULT_AT
+}
+
 /* The certificate has a KeyUsage, without cRLSign. A certificate of v1 has none (RFC 5280 4.1.2.1). */
 static void signers_of_lists(void)
 {
@@ -810,13 +1033,18 @@ int main(int argc, char **argv)
     names();
     signed_parts();
     signatures();
+    names_of_peers();
     faults();
     paths();
     validated_paths();
     long_paths();
+    found_paths();
+    paths_beyond_limits();
     statuses_by_lists();
     verified_lists();
     refused_statuses();
+    faults_of_lists();
+    refused_faults();
     signers_of_lists();
     certificates();
     lists();

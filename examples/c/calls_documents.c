@@ -295,12 +295,14 @@ static void want_nothing(const char *what, write_call lint, const uint8_t *bytes
     want(what, lint(bytes, len, NULL, 0, &written) == X509_OK && written == 0);
 }
 
-/* The certificate of the files is its own issuer's, so that it needs no AKI, and has no SKI (RFC 5280 4.2.1.1, 4.2.1.2); the CRL has neither AKI nor a number
+/* The certificate of the files is its own issuer's, so that it needs no AKI, and has no SKI (RFC 5280 4.2.1.1, 4.2.1.2), and its key of ECDSA may encipher keys
+ * (RFC 8813 3); the CRL has neither AKI nor a number
  * (5.2.1, 5.2.3). */
 static void rules(void)
 {
     static const char of_certificate[] =
-        FINDING("certificate", "subject_key_identifier_absent", "warning", "RFC 5280 4.2.1.2", "tbsCertificate.extensions.subjectKeyIdentifier", "");
+        FINDING("certificate", "subject_key_identifier_absent", "warning", "RFC 5280 4.2.1.2", "tbsCertificate.extensions.subjectKeyIdentifier", "")
+            FINDING("certificate", "ec_key_usage_invalid", "error", "RFC 8813 3", "tbsCertificate.extensions.keyUsage", "");
     static const char of_list[] = FINDING("crl", "authority_key_identifier_absent", "error", "RFC 5280 5.2.1",
                                             "tbsCertList.crlExtensions.authorityKeyIdentifier", "")
         FINDING("crl", "crl_number_absent", "error", "RFC 5280 5.2.3", "tbsCertList.crlExtensions.cRLNumber", "");
@@ -308,7 +310,8 @@ static void rules(void)
     static const char of_request[] =
         FINDING("csr", "challenge_password_type", "warning", "RFC 2985 5.4.1", "certificationRequestInfo.attributes.challengePassword", "");
     /* of an anchor that is a certificate, what of that */
-    static const char of_anchor[] = FINDING("anchor", "subject_key_identifier_absent", "warning", "RFC 5280 4.2.1.2", "tbsCertificate.extensions.subjectKeyIdentifier", "");
+    static const char of_anchor[] = FINDING("anchor", "subject_key_identifier_absent", "warning", "RFC 5280 4.2.1.2", "tbsCertificate.extensions.subjectKeyIdentifier", "")
+        FINDING("anchor", "ec_key_usage_invalid", "error", "RFC 8813 3", "tbsCertificate.extensions.keyUsage", "");
     static const char of_description[] = FINDING("anchor", "ta_title_size", "error", "RFC 5914 2.4", "taInfo.taTitle", "")
         FINDING("anchor", "extension_malformed", "error", "RFC 5280 4.2", "taInfo.exts.keyUsage", "0500");
     static const char of_number[] =

@@ -231,12 +231,107 @@ static void signed_timestamps(void)
     WANT(written == 77 && room[0] == 7);
 }
 
+/* A precertificate signing certificate, whose issuer is S, and precertificates that it signed (RFC 6962 3.1, 3.2), with authority key identifiers. */
+#define FIELDS_OF_S \
+    "\xa0\x03\x02\x01\x02\x02\x01\x2a\x30\x05\x06\x03\x2a\x03\x04\x30\x0c\x31\x0a\x30\x08\x06\x03\x55\x04\x03\x0c\x01\x53\x30\x1e\x17\x0d\x31\x30\x30" \
+    "\x31\x30\x31\x30\x38\x33\x30\x30\x30\x5a\x17\x0d\x33\x30\x31\x32\x33\x31\x30\x38\x33\x30\x30\x30\x5a\x30\x0c\x31\x0a\x30\x08\x06\x03\x55\x04\x03" \
+    "\x0c\x01\x52\x30\x0d\x30\x05\x06\x03\x2a\x03\x04\x03\x04\x00\x61\x62\x63"
+#define IDENTIFIER "\x30\x0c\x06\x03\x55\x1d\x23\x04\x05\x30\x03\x80\x01\x0a"
+#define IDENTIFIER_ABOVE "\x30\x0e\x06\x03\x55\x1d\x23\x04\x07\x30\x05\x80\x03\x0b\x0b\x0b"
+#define SIGNING "\x30\x7b" "\x30\x6e" FIELDS_OF_S "\xa3\x12\x30\x10" IDENTIFIER_ABOVE SIGNED
+#define SIGNING_UNKEYED "\x30\x7b" "\x30\x6e" FIELDS_OF_S "\xa3\x12\x30\x10" USAGE SIGNED
+#define SIGNING_TWICE "\x30\x81\x8b" "\x30\x7e" FIELDS_OF_S "\xa3\x22\x30\x20" IDENTIFIER_ABOVE IDENTIFIER_ABOVE SIGNED
+#define SIGNED_PRECERT "\x30\x81\x9f" "\x30\x81\x91" FIELDS "\xa3\x35\x30\x33" IDENTIFIER USAGE POISON SIGNED
+#define REISSUED "\x30\x7e" FIELDS_OF_S "\xa3\x22\x30\x20" IDENTIFIER_ABOVE USAGE
+#define UNIDENTIFIED_REISSUED "\x30\x6e" FIELDS_OF_S "\xa3\x12\x30\x10" USAGE
+#define IDENTIFIED_TWICE "\x30\x81\x9d" "\x30\x81\x8f" FIELDS "\xa3\x33\x30\x31" IDENTIFIER POISON IDENTIFIER SIGNED
+
+static void reissued_parts(void)
+{
+    WANT(WROTE(x509_logged_precertificate_signed_by(BYTES(SIGNED_PRECERT), BYTES(SIGNING), room, sizeof room, &written), REISSUED));
+    WANT(WROTE(x509_logged_precertificate_signed_by(BYTES(PRECERT), BYTES(SIGNING_UNKEYED), room, sizeof room, &written), UNIDENTIFIED_REISSUED));
+    WANT(WROTE(x509_logged_precertificate_signed_by(BYTES(PRECERT), BYTES(SIGNING_TWICE), room, sizeof room, &written), UNIDENTIFIED_REISSUED));
+    room[0] = 7;
+    WANT(x509_logged_precertificate_signed_by(BYTES(SIGNED_PRECERT), BYTES(SIGNING), room, 127, &written) == X509_ROOM && written == 128 && room[0] == 7);
+    written = 77;
+    WANT(x509_logged_precertificate_signed_by(BYTES(ISSUED), BYTES(SIGNING), room, sizeof room, &written) == X509_ABSENT);
+    WANT(x509_logged_precertificate_signed_by(BYTES(SIGNED_PRECERT), BYTES(SIGNING_UNKEYED), room, sizeof room, &written) == X509_ABSENT);
+    WANT(x509_logged_precertificate_signed_by(BYTES(SIGNED_PRECERT), BYTES(SIGNING_TWICE), room, sizeof room, &written) == X509_REPEATED);
+    WANT(x509_logged_precertificate_signed_by(BYTES(IDENTIFIED_TWICE), BYTES(SIGNING), room, sizeof room, &written) == X509_REPEATED);
+    WANT(x509_logged_precertificate_signed_by(nothing, 0, BYTES(SIGNING), room, sizeof room, &written) == X509_MALFORMED);
+    WANT(x509_logged_precertificate_signed_by(BYTES(SIGNED_PRECERT), BYTES("\x30\x00"), room, sizeof room, &written) == X509_MALFORMED);
+    WANT(written == 77 && room[0] == 7);
+}
+
+/* Leaves of a certificate and of a precertificate, and what comes beside these (RFC 6962 3.1, 3.4). */
+#define MOMENT_OF_LEAF "\x00\x00\x01\x8b\xcf\xe5\x68\x7b"
+#define LEAF "\x00\x00" MOMENT_OF_LEAF "\x00\x00\x00\x00\x02\xab\xac\x00\x01\xee"
+#define PRECERT_LEAF "\x00\x00" MOMENT_OF_LEAF "\x00\x01" KEY_HASH "\x00\x00\x03\xab\xac\xad\x00\x00"
+#define CHAIN "\x00\x00\x09\x00\x00\x01\xab\x00\x00\x02\xac\xad"
+
+static void log_entries(void)
+{
+    x509_log_leaf leaf;
+    memset(&leaf, 7, sizeof leaf);
+    const x509_log_leaf before = leaf;
+    WANT(x509_log_leaf_view(nothing, 0, &leaf) == X509_MALFORMED && x509_log_leaf_view(BYTES(LEAF "\x00"), &leaf) == X509_MALFORMED);
+    WANT(x509_log_leaf_view((const uint8_t *)LEAF, sizeof LEAF - 2, &leaf) == X509_MALFORMED);
+    WANT(x509_log_leaf_view(BYTES("\x01\x00" MOMENT_OF_LEAF "\x00\x00\x00\x00\x01\xab\x00\x00"), &leaf) == X509_MALFORMED);
+    WANT(x509_log_leaf_view(BYTES("\x00\x01" MOMENT_OF_LEAF "\x00\x00\x00\x00\x01\xab\x00\x00"), &leaf) == X509_MALFORMED);
+    WANT(x509_log_leaf_view(BYTES("\x00\x00" MOMENT_OF_LEAF "\x00\x02\x00\x00\x01\xab\x00\x00"), &leaf) == X509_MALFORMED);
+    WANT(x509_log_leaf_view(BYTES("\x00\x00" MOMENT_OF_LEAF "\x00\x00\x00\x00\x00\x00\x00"), &leaf) == X509_MALFORMED); /* a certificate of no bytes */
+    WANT(memcmp(&leaf, &before, sizeof leaf) == 0);
+    WANT(x509_log_leaf_view(BYTES(LEAF), &leaf) == X509_OK && leaf.version == 0 && leaf.leaf_type == 0 && leaf.timestamp == 1700000000123);
+    WANT(leaf.entry_type == 0 && is_at(leaf.issuer_key_hash, 0, 0) && is_at(leaf.certificate, 15, 2) && is_at(leaf.extensions, 19, 1));
+    WANT(x509_log_leaf_view(BYTES(PRECERT_LEAF), &leaf) == X509_OK && leaf.version == 0 && leaf.leaf_type == 0 && leaf.timestamp == 1700000000123);
+    WANT(leaf.entry_type == 1 && is_at(leaf.issuer_key_hash, 12, 32) && is_at(leaf.certificate, 47, 3) && is_at(leaf.extensions, 52, 0));
+
+    x509_log_precertificate submitted = {{7, 7}, {7, 7}};
+    WANT(x509_log_precertificate_view(nothing, 0, &submitted) == X509_MALFORMED);
+    WANT(x509_log_precertificate_view(BYTES("\x00\x00\x00" CHAIN), &submitted) == X509_MALFORMED);
+    WANT(x509_log_precertificate_view(BYTES("\x00\x00\x01\xaa" CHAIN "\x00"), &submitted) == X509_MALFORMED);
+    WANT(x509_log_precertificate_view(BYTES("\x00\x00\x01\xaa\x00\x00\x01\xab"), &submitted) == X509_MALFORMED);
+    WANT(is_at(submitted.precertificate, 7, 7) && is_at(submitted.chain, 7, 7));
+    WANT(x509_log_precertificate_view(BYTES("\x00\x00\x01\xaa" CHAIN), &submitted) == X509_OK && is_at(submitted.precertificate, 3, 1));
+    WANT(is_at(submitted.chain, 4, 12));
+
+    x509_span found = {7, 7};
+    size_t at = 0;
+    WANT(x509_log_chain_next(nothing, 0, &at, &found) == X509_MALFORMED && x509_log_chain_next(BYTES("\x00\x00"), &at, &found) == X509_MALFORMED);
+    WANT(x509_log_chain_next(BYTES(CHAIN "\x00"), &at, &found) == X509_MALFORMED && x509_log_chain_next(BYTES("\x00\x00\x01"), &at, &found) == X509_MALFORMED);
+    WANT(x509_log_chain_next(BYTES("\x00\x00\x01\x00"), &at, &found) == X509_MALFORMED); /* no count of three bytes */
+    WANT(x509_log_chain_next(BYTES("\x00\x00\x03\x00\x00\x00"), &at, &found) == X509_MALFORMED); /* a certificate of no bytes */
+    WANT(x509_log_chain_next(BYTES("\x00\x00\x03\x00\x00\x01"), &at, &found) == X509_MALFORMED && at == 0 && is_at(found, 7, 7));
+    WANT(x509_log_chain_next(BYTES("\x00\x00\x00"), &at, &found) == X509_ABSENT && at == 0 && is_at(found, 7, 7));
+    WANT(x509_log_chain_next(BYTES(CHAIN), &at, &found) == X509_OK && at == 7 && is_at(found, 6, 1));
+    WANT(x509_log_chain_next(BYTES(CHAIN), &at, &found) == X509_OK && at == 12 && is_at(found, 10, 2));
+    WANT(x509_log_chain_next(BYTES(CHAIN), &at, &found) == X509_ABSENT && at == 12 && is_at(found, 10, 2));
+    at = 2;
+    WANT(x509_log_chain_next(BYTES(CHAIN), &at, &found) == X509_MALFORMED && at == 2 && is_at(found, 10, 2));
+    at = 13;
+    WANT(x509_log_chain_next(BYTES(CHAIN), &at, &found) == X509_MALFORMED && at == 13 && is_at(found, 10, 2));
+}
+
 /* The trees of two and of three leaves, whose entries are no byte, a byte 0 and a byte 16: the hashes by SHA-256, after RFC 6962 2.1. */
 #define LEAF_0 "\x6e\x34\x0b\x9c\xff\xb3\x7a\x98\x9c\xa5\x44\xe6\xbb\x78\x0a\x2c\x78\x90\x1d\x3f\xb3\x37\x38\x76\x85\x11\xa3\x06\x17\xaf\xa0\x1d"
 #define LEAF_1 "\x96\xa2\x96\xd2\x24\xf2\x85\xc6\x7b\xee\x93\xc3\x0f\x8a\x30\x91\x57\xf0\xda\xa3\x5d\xc5\xb8\x7e\x41\x0b\x78\x63\x0a\x09\xcf\xc7"
 #define LEAF_2 "\x02\x98\xd1\x22\x90\x6d\xcf\xc1\x08\x92\xcb\x53\xa7\x39\x92\xfc\x5b\x9f\x49\x3e\xa4\xc9\xba\xdb\x27\xb7\x91\xb4\x12\x7a\x7f\xe7"
 #define ROOT_2 "\xfa\xc5\x42\x03\xe7\xcc\x69\x6c\xf0\xdf\xcb\x42\xc9\x2a\x1d\x9d\xba\xf7\x0a\xd9\xe6\x21\xf4\xbd\x8d\x98\x66\x2f\x00\xe3\xc1\x25"
 #define ROOT_3 "\xae\xb6\xbc\xfe\x27\x4b\x70\xa1\x4f\xb0\x67\xa5\xe5\x57\x82\x64\xdb\x0f\xa9\xb5\x1a\xf5\xe0\xba\x15\x91\x58\xf3\x29\xe0\x6e\x77"
+
+/* The head of a tree of three leaves (RFC 6962 3.5). */
+static void tree_heads(void)
+{
+    WANT(WROTE(x509_tree_head_signed_data(1700000000123, 3, BYTES(ROOT_3), room, sizeof room, &written),
+               "\x00\x01" MOMENT_OF_LEAF "\x00\x00\x00\x00\x00\x00\x00\x03" ROOT_3));
+    room[0] = 7;
+    WANT(x509_tree_head_signed_data(0, UINT64_MAX, BYTES(ROOT_3), room, 49, &written) == X509_ROOM && written == 50 && room[0] == 7);
+    written = 77;
+    WANT(x509_tree_head_signed_data(0, 3, BYTES(ROOT_3 "\x00"), room, sizeof room, &written) == X509_MALFORMED);
+    WANT(x509_tree_head_signed_data(0, 3, (const uint8_t *)ROOT_3, 31, room, sizeof room, &written) == X509_MALFORMED);
+    WANT(x509_tree_head_signed_data(0, 3, nothing, 0, room, sizeof room, &written) == X509_MALFORMED);
+    WANT(written == 77 && room[0] == 7);
+}
 
 static void merkle_trees(void)
 {
@@ -621,8 +716,9 @@ static void texts(void)
     WANT(x509_status_text(X509_OVERLENGTH, room, sizeof room, &written) == X509_OK && is_written("too long"));
     WANT(x509_status_text(X509_MALFORMED, room, sizeof room, &written) == X509_OK && is_written("malformed"));
     WANT(x509_status_text(X509_FAULT, room, sizeof room, &written) == X509_OK && is_written("the path has a fault"));
+    WANT(x509_status_text(X509_LIMIT, room, sizeof room, &written) == X509_OK && is_written("a limit is used up"));
     written = 77;
-    WANT(x509_status_text(9, room, sizeof room, &written) == X509_FAILED && written == 77);
+    WANT(x509_status_text(10, room, sizeof room, &written) == X509_FAILED && written == 77);
     WANT(x509_status_text(-3, room, sizeof room, &written) == X509_FAILED && written == 77);
     WANT(x509_status_text(INT32_MIN, room, sizeof room, &written) == X509_FAILED && written == 77);
     WANT(x509_status_text(INT32_MAX, room, sizeof room, &written) == X509_FAILED && written == 77);
@@ -638,6 +734,9 @@ int main(int argc, char **argv)
     timestamps();
     logged_parts();
     signed_timestamps();
+    reissued_parts();
+    log_entries();
+    tree_heads();
     merkle_trees();
     attributes();
     first_attributes();

@@ -30,6 +30,7 @@ static x509_signature signature;
 static x509_path_fault fault;
 static x509_revocation_answer told = {7, 7, 7, 7, 7};
 static uint32_t may_sign = 7;
+static uint32_t crl_fault = 7;
 static const uint8_t *const CERTIFICATE = (const uint8_t *)"Certificate";
 static const uint8_t *const OID = (const uint8_t *)"\x55\x1d\x0f";
 static const uint8_t *const SERIAL = (const uint8_t *)"\x02\x01\x03";
@@ -49,7 +50,7 @@ static size_t read_file(const char *path, uint8_t *bytes)
 /* Whether what is answered of CRLs is as it was. */
 static int is_untold(void)
 {
-    return told.status == 7 && told.reason == 7 && told.crl == 7 && told.date == 7 && told.reasons == 7 && may_sign == 7;
+    return told.status == 7 && told.reason == 7 && told.crl == 7 && told.date == 7 && told.reasons == 7 && may_sign == 7 && crl_fault == 7;
 }
 
 /* Whether the first certificate of a path was none. */
@@ -81,6 +82,10 @@ static void refused_documents(const uint8_t *bytes, size_t len, x509_status stat
     }
 }
 
+static x509_server_name server;
+static x509_email_address address;
+static uint32_t matches = 7;
+
 /* NULL with a length of 0 is no bytes, with a room of 0 no room, and with a count of 0 no lengths. */
 static void no_pointers(void)
 {
@@ -92,6 +97,12 @@ static void no_pointers(void)
     WANT(x509_certificate_extension(NULL, 0, NULL, 0, &found) == X509_MALFORMED);
     WANT(x509_certificate_extension(certificate, certificate_len, NULL, 0, &found) == X509_ABSENT);
     WANT(x509_certificate_signature(NULL, 0, &signature) == X509_MALFORMED);
+    WANT(x509_certificate_matches_name(NULL, 0, NULL, 0, &matches) == X509_MALFORMED && matches == 7);
+    WANT(x509_certificate_matches_name(certificate, certificate_len, NULL, 0, &matches) == X509_VALUE && matches == 7);
+    WANT(x509_certificate_matches_email(NULL, 0, NULL, 0, &matches) == X509_MALFORMED && matches == 7);
+    WANT(x509_certificate_matches_email(certificate, certificate_len, NULL, 0, &matches) == X509_VALUE && matches == 7);
+    WANT(x509_server_name_view(NULL, 0, &server) == X509_VALUE && server.name_len == 0);
+    WANT(x509_email_address_view(NULL, 0, &address) == X509_VALUE && address.host.place == 0);
     const size_t none = 0;
     WANT(x509_path_check(certificate, certificate_len, NULL, 0, NULL, 0, MOMENT, &fault) == X509_ABSENT);
     WANT(x509_path_check(NULL, 0, certificate, certificate_len, &certificate_len, 1, MOMENT, &fault) == X509_MALFORMED);
@@ -105,6 +116,10 @@ static void no_pointers(void)
     WANT(x509_revocation_status(certificate, certificate_len, NULL, 0, NULL, 0, NULL, 0, &told) == X509_VALUE);
     WANT(x509_revocation_status(NULL, 0, NULL, 0, NULL, 0, &at_moment, sizeof at_moment, &told) == X509_MALFORMED);
     WANT(x509_revocation_status(certificate, certificate_len, NULL, 0, &empty, 1, &at_moment, sizeof at_moment, &told) == X509_MALFORMED && is_untold());
+    WANT(x509_crl_fault(certificate, certificate_len, NULL, 0, NULL, 0, &at_moment, sizeof at_moment, 0, &crl_fault) == X509_VALUE);
+    WANT(x509_crl_fault(certificate, certificate_len, NULL, 0, &empty, 1, NULL, 0, 0, &crl_fault) == X509_VALUE);
+    WANT(x509_crl_fault(NULL, 0, NULL, 0, &empty, 1, &at_moment, sizeof at_moment, 0, &crl_fault) == X509_MALFORMED);
+    WANT(x509_crl_fault(certificate, certificate_len, NULL, 0, &empty, 1, &at_moment, sizeof at_moment, 0, &crl_fault) == X509_MALFORMED && is_untold());
     WANT(x509_revocation_status(certificate, certificate_len, NULL, 0, NULL, 0, &at_moment, sizeof at_moment, &told) == X509_OK
          && told.status == X509_UNDETERMINED);
     told = (x509_revocation_answer){7, 7, 7, 7, 7};
@@ -351,6 +366,12 @@ static void overlong_paths(const uint8_t *bytes, size_t len)
     WANT(x509_path_validate_under_key(bytes, len, BYTES(KEY), PATH, NULL, 0, NULL, 0, SETTINGS) == X509_OVERLENGTH);
     WANT(x509_path_validate_under_anchor(bytes, len, PATH, NULL, 0, NULL, 0, SETTINGS) == X509_OVERLENGTH);
     WANT(answer.place == 7 && answer.reason == 7 && answer.name.len == 7 && answer.key.len == 7 && answer.policies_len == 7);
+    const x509_span whole = {0, len};
+    x509_found_path found = {7, 7, 7, 7};
+    WANT(x509_path_find(bytes, len, &whole, 1, NULL, 0, &whole, NULL, 0, NULL, 0, NULL, 0, &settings, sizeof settings, 8, NULL, 0, &found) == X509_OVERLENGTH);
+    WANT(x509_certificate_matches_name(bytes, len, BYTES("example.org"), &matches) == X509_OVERLENGTH);
+    WANT(x509_certificate_matches_email(bytes, len, BYTES("post@example.org"), &matches) == X509_OVERLENGTH);
+    WANT(found.anchor == 7 && found.count == 7 && found.place == 7 && found.reason == 7 && matches == 7);
 }
 
 /* What builds, of a part that is too long. */
@@ -387,6 +408,7 @@ static void overlong_logged(const uint8_t *bytes, size_t len)
     static const uint8_t timestamp[49] = {[43] = 4, [44] = 3, [46] = 2, [47] = 7, [48] = 7};
     written = 77;
     WANT(x509_logged_part(bytes, len, OUT) == X509_OVERLENGTH && x509_logged_precertificate(bytes, len, OUT) == X509_OVERLENGTH);
+    WANT(x509_logged_precertificate_signed_by(bytes, len, certificate, certificate_len, OUT) == X509_OVERLENGTH);
     WANT(x509_timestamp_signed_data(timestamp, sizeof timestamp, bytes, len, certificate, certificate_len, OUT) == X509_OVERLENGTH);
     WANT(x509_timestamp_signed_data_beside(timestamp, sizeof timestamp, bytes, len, OUT) == X509_OVERLENGTH);
     WANT(x509_timestamp_signed_data_beside(timestamp, sizeof timestamp, bytes, (size_t)1 << 24, OUT) == X509_OVERLENGTH && written == 77);
@@ -415,6 +437,8 @@ static void overlong(void)
     WANT(x509_may_sign_crls(bytes, len, &may_sign) == X509_OVERLENGTH);
     WANT(x509_revocation_status(bytes, len, NULL, 0, NULL, 0, &at_moment, sizeof at_moment, &told) == X509_OVERLENGTH);
     WANT(x509_revocation_status(certificate, certificate_len, bytes, len, &whole, 1, &at_moment, sizeof at_moment, &told) == X509_OVERLENGTH && is_untold());
+    WANT(x509_crl_fault(bytes, len, NULL, 0, &whole, 1, &at_moment, sizeof at_moment, 0, &crl_fault) == X509_OVERLENGTH);
+    WANT(x509_crl_fault(certificate, certificate_len, bytes, len, &whole, 1, &at_moment, sizeof at_moment, 0, &crl_fault) == X509_OVERLENGTH && is_untold());
     WANT(x509_certificate_reencode(bytes, len, room, sizeof room, &written) == X509_OVERLENGTH);
     WANT(x509_reencode(CERTIFICATE, 11, X509_RAW, bytes, len, room, sizeof room, &written) == X509_OVERLENGTH);
     WANT(x509_name_text(bytes, len, room, sizeof room, &written) == X509_OVERLENGTH);

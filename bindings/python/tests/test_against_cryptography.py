@@ -339,12 +339,17 @@ class Refusals(unittest.TestCase):
 
         with self.assertRaises(ours.PathFault) as refused:
             ours.check_path(certificate, [data], moment, verify)
-        self.assertEqual((refused.exception.place, refused.exception.reason), (0, 5))
+        self.assertEqual((refused.exception.place, refused.exception.reason, refused.exception.is_expired), (0, 5, None))
         self.assertEqual(asked, [(certificate.public_key_bytes, certificate.tbs_certificate_bytes, certificate.signature)])
         early = moment - datetime.timedelta(seconds=1)
         with self.assertRaises(ours.PathFault) as refused:
             ours.check_path(certificate, [data], early, lambda *_: True)
-        self.assertEqual((refused.exception.place, refused.exception.reason), (0, 4))
+        self.assertEqual((refused.exception.place, refused.exception.reason, refused.exception.is_expired), (0, 4, False))
+        self.assertEqual(str(refused.exception), "certificate 0 isn't valid at the moment: it isn't valid yet")
+        with self.assertRaises(ours.PathFault) as refused:
+            ours.check_path(certificate, [data], certificate.not_valid_after_utc + datetime.timedelta(seconds=1), lambda *_: True)
+        self.assertEqual((refused.exception.place, refused.exception.reason, refused.exception.is_expired), (0, 4, True))
+        self.assertEqual(str(refused.exception), "certificate 0 isn't valid at the moment: it has expired")
         with self.assertRaises(ours.PathFault) as refused:
             ours.check_path(certificate, [b""], moment, lambda *_: True)
         self.assertEqual((refused.exception.place, refused.exception.reason), (0, 1))

@@ -977,6 +977,7 @@ READ = {
     ours.CertificateRevocationList,
     ours.CertificateSigningRequest,
     ours.TrustAnchor,
+    ours.FoundPath,
     ours.ValidatedPath,
     ours.RevocationStatus,
     ours.SignedCrl,

@@ -76,12 +76,16 @@ class Refused(unittest.TestCase):
         builder = x509.CertificateBuilder().serial_number(1).subject_name(name).public_key(KEY).not_valid_before(NOW).not_valid_after(NOW)
         how = (x509.SignatureAlgorithm.ED25519, lambda part: bytes(64))
         device = builder.issuer_name(name)
+        made = device.sign(bytes.fromhex("300506032b6570"), lambda part: bytes(64))
+        unnamed = x509.CertificateBuilder().serial_number(1).issuer_name(name).subject_name(x509.Name([])).public_key(KEY)
+        unnamed = unnamed.not_valid_before(NOW).not_valid_after(NOW).sign(bytes.fromhex("300506032b6570"), lambda part: bytes(64))
         rows: dict[str, Callable[[], object]] = {
             "there is no type with that name": lambda: x509.reencode("Nothing", b"\x30\x00"),
             "the attribute doesn't have that string type": lambda: x509.NameAttribute(x509.NameOID.COUNTRY_NAME, "DE", x509.ASN1Type.UTF8String),
             "a root's subject has a country, an organization and a common name, in that order, each alone in its relative name; `sign` makes a root of any other "
             "name": lambda: builder.sign_root(*how),
             "none of the names is that of a hardware module": lambda: device.sign_device(*how, issuer_public_key=KEY, names=[x509.DNSName("a")]),
+            "an anchor has no name, or an extension twice": lambda: x509.find_path([unnamed], [], made, NOW),
         }
         for cause, asked in rows.items():
             with self.subTest(cause):
@@ -101,7 +105,7 @@ class Refused(unittest.TestCase):
         files = (top / "bindings/python/src/x509_cert").glob("*.py")
         source = "".join(it.read_text(encoding="utf-8") for it in files if it.name != "_library.py")
         # a text of Python is UTF-8, the lengths of a path add up, and the parts of CRLs are within their bytes; a Merkle proof that fails is answered by False
-        others = {"x509_name_escape", "x509_path_check", "x509_path_validate_under_key", "x509_revocation_status"}
+        others = {"x509_name_escape", "x509_path_check", "x509_path_validate_under_key", "x509_revocation_status", "x509_crl_fault"}
         others |= {"x509_merkle_inclusion", "x509_merkle_consistency"}
         self.assertEqual({it for it in listed if f'"{it}"' in source} - others, set(x509.X509Error.CAUSES))
 

@@ -9,6 +9,7 @@ from __future__ import annotations
 import datetime
 import hashlib
 import itertools
+import pickle
 import unittest
 from typing import Any, Iterable
 
@@ -142,6 +143,51 @@ class OneCertificate(unittest.TestCase):
             stranger = listed(AUTHORITY, KEYS[by], at=NOW + datetime.timedelta(0))
             self.assertTrue(self.status(older, stranger).is_revoked)
 
+    def test_faults(self) -> None:
+        """Each fault alone, told of the CRL that has it (RFC 5280 5.1 to 5.3, 6.3.3)."""
+        good, fault = listed(AUTHORITY, KEYS[1]), ours.CrlFault
+        builder = ours.CertificateRevocationListBuilder().issuer(AUTHORITY).crl_number(1).last_update(NOW).next_update(NOW + HOUR)
+        unknown = ours.UnrecognizedExtension(ours.ObjectIdentifier("1.2.3"), b"\x05\x00")
+        place = ours.DistributionPoint([ours.UniformResourceIdentifier("http://a")], None, None, None)
+        authorities = ours.IssuingDistributionPoint(None, None, False, True, None, False, False)
+        elsewhere = ours.IssuingDistributionPoint(place.full_name, None, False, False, None, False, False)
+        other_issuer = ours.Extensions([ours.Extension(ours.CertificateIssuer.oid, True, ours.CertificateIssuer([ours.DirectoryName(name("CN=Other"))]))])
+        rows = {
+            None: good,
+            fault.not_yet_valid: listed(AUTHORITY, KEYS[1], at=NOW + HOUR),
+            fault.expired: listed(AUTHORITY, KEYS[1], at=NOW - 2 * HOUR),
+            fault.critical: listed(AUTHORITY, KEYS[1], extensions=[unknown]),
+            fault.delta: builder.add_extension(ours.DeltaCRLIndicator(1), critical=True).sign(ED25519, sign(KEYS[1])),
+            fault.issuer: listed(ROOT, KEYS[1]),
+            fault.scope: listed(AUTHORITY, KEYS[1], extensions=[authorities]),
+            fault.point: listed(AUTHORITY, KEYS[1], extensions=[elsewhere]),
+            fault.signature: listed(AUTHORITY, KEYS[2]),
+            fault.entry: builder.add_revoked_certificate(ours.RevokedCertificate(4, NOW, None, other_issuer)).sign(ED25519, sign(KEYS[1])),
+        }
+        for wanted, crl in rows.items():
+            with self.subTest(wanted):
+                self.assertEqual(self.status(crl).faults, (wanted,))
+        # all at once
+        self.assertEqual(self.status(*rows.values(), use_deltas=True).faults, tuple(rows))
+        self.assertEqual(self.status(good, signer=ROOT).faults, (fault.signer,))
+        self.assertEqual(self.status().faults, ())
+        # the newer one of two for one scope takes the place of the other
+        later = listed(AUTHORITY, KEYS[1], at=NOW + datetime.timedelta(seconds=-1))
+        self.assertEqual(self.status(later, good).faults, (fault.replaced, None))
+        # what isn't accepted has its earlier faults too, and a key that is none signs nothing
+        stale = listed(AUTHORITY, KEYS[2], at=NOW - 2 * HOUR)
+        self.assertEqual(self.status(stale).faults, (fault.expired,))
+        bad = ours.SignedCrl(good, (name("CN=Authority"), b"\x30\x00"))
+        self.assertEqual(ours.revocation_status(LEAF, [bad], NOW, verify).faults, (fault.signer,))
+        # without a next update
+        lasting = listed(AUTHORITY, KEYS[1], next_update=False)
+        self.assertEqual(self.status(lasting).faults, (fault.expired,))
+        self.assertEqual(self.status(lasting, without_next_update=True).faults, (None,))
+        # what is pickled is the status alone
+        found = self.status(stale)
+        again = pickle.loads(pickle.dumps(found))
+        self.assertEqual((again, again.faults), (found, ()))
+
     def test_some_reasons(self) -> None:
         point = ours.IssuingDistributionPoint(None, None, False, False, [ours.ReasonFlags.key_compromise], False, False)
         some = listed(AUTHORITY, KEYS[1], extensions=[point])
@@ -219,6 +265,20 @@ class Paths(unittest.TestCase):
         self.assertEqual(self.states(path, [of_root, listed(AUTHORITY, KEYS[1], 3)]), "ur")
         self.assertEqual(self.states(path, [listed(ROOT, KEYS[1]), listed(AUTHORITY, KEYS[0])]), "??")
         self.assertEqual(self.states(path, [of_root, of_authority], anchor=(name("CN=Root"), KEYS[0])), "uu")
+
+    def test_faults(self) -> None:
+        """Of each certificate those of all CRLs; of a CRL of which no signer counts too."""
+        fault = ours.CrlFault
+        of_root, of_authority, stale = listed(ROOT, KEYS[0]), listed(AUTHORITY, KEYS[1]), listed(ROOT, KEYS[0], at=NOW - 2 * HOUR)
+        crls = [of_root, of_authority, stale, listed(ROOT, KEYS[1]), listed(SPLIT_SIGNER, KEYS[3])]
+        found = [it.faults for it in self.statuses([AUTHORITY, LEAF], crls)]
+        self.assertEqual(found[0], (None, fault.issuer, fault.expired, fault.signature, fault.issuer))
+        self.assertEqual(found[1], (fault.issuer, None, fault.expired, fault.issuer, fault.issuer))
+        # a signer that isn't given, one that is, and one that is revoked
+        path, of_split = [SPLIT, SPLIT_LEAF], listed(SPLIT_SIGNER, KEYS[3])
+        self.assertEqual(self.statuses(path, [of_root, of_split])[1].faults, (fault.issuer, fault.signer))
+        self.assertEqual(self.statuses(path, [of_root, of_split], SPLIT_SIGNER)[1].faults, (fault.issuer, None))
+        self.assertEqual(self.statuses(path, [listed(ROOT, KEYS[0], 5), of_split], SPLIT_SIGNER)[1].faults, (fault.issuer, fault.signer))
 
     def test_the_latest_is_asked_first(self) -> None:
         older, newer = listed(AUTHORITY, KEYS[1], 3, at=NOW - HOUR / 2), listed(AUTHORITY, KEYS[1])

@@ -142,8 +142,8 @@ impl<'a> TrustAnchor<'a> {
         ffi::ANCHOR_JSON.text_of(self.der)
     }
 
-    /// The rules that it breaks beyond the grammar, those of RFC 5914 that `docs/RULES.md` of the sources lists, and of a Certificate or a TBSCertificate those of
-    /// RFC 5280, in their order; none where it breaks none.
+    /// The rules that it breaks beyond the grammar, those of RFC 5914 that `docs/RULES.md` of the sources lists, and of a Certificate or a TBSCertificate those
+    /// on certificates, in their order; none where it breaks none.
     ///
     /// # Errors
     /// [`Error::Memory`].

@@ -10,6 +10,7 @@ use crate::lint::{self, Finding};
 use crate::name::NameRef;
 use crate::oid::ObjectIdentifier;
 use crate::owned::traits_by_der;
+use crate::peer::{EmailAddress, ServerName};
 use crate::time::moment;
 use std::fmt;
 use std::time::SystemTime;
@@ -295,6 +296,26 @@ impl<'a> CertificateRef<'a> {
         Ok(self.get()?.map(|(_, found)| found))
     }
 
+    /// Whether it is that of the server (RFC 9525 6): its SubjectAltName has a name of it. A dNSName names a host where both are the same without regard to ASCII
+    /// case; one that begins with `*.` and has two labels or more behind it names each host that has these behind one label. An iPAddress names a host where
+    /// both have the same octets. Nothing else names one, nor does the common name; a SubjectAltName that can't be decoded, or that is there twice, names none.
+    /// Whether the certificate is to be trusted is asked by [`validate_path`](crate::validate_path).
+    ///
+    /// # Errors
+    /// None but [`Error::Unexpected`].
+    pub fn matches_name(&self, name: &ServerName) -> Result<bool, Error> {
+        ffi::MATCHES_NAME.are(self.der, &name.to_string())
+    }
+
+    /// Whether it is that of the mailbox (RFC 5280 7.5): its SubjectAltName has an rfc822Name with the same local part, byte for byte, and the same host without
+    /// regard to ASCII case. Nothing else names one.
+    ///
+    /// # Errors
+    /// None but [`Error::Unexpected`].
+    pub fn matches_email(&self, address: &EmailAddress) -> Result<bool, Error> {
+        ffi::MATCHES_EMAIL.are(self.der, &address.to_string())
+    }
+
     /// The bytes that the signature is over, as they stand in the DER: a whole TBSCertificate.
     ///
     /// # Errors
@@ -362,7 +383,22 @@ impl<'a> CertificateRef<'a> {
         ffi::LOGGED_PRECERTIFICATE.of(self.der)
     }
 
-    /// The rules that it breaks beyond the grammar, those of RFC 5280 that `docs/RULES.md` of the sources lists, in their order; none where it breaks none.
+    /// The same of a precertificate that a precertificate signing certificate signed (RFC 6962 3.1; its extended key usage has
+    /// [`CERTIFICATE_TRANSPARENCY`](crate::oid::purpose::CERTIFICATE_TRANSPARENCY)): with the issuer of the signing certificate, and, where the precertificate
+    /// has an authority key identifier, with the value that this extension has there (3.2). Whether that certificate is one, and signed the precertificate, isn't looked at.
+    ///
+    /// # Errors
+    /// [`Error::Absent`] where it has no poison, or an authority key identifier which the signing certificate hasn't; [`Error::Repeated`] where one of these
+    /// extensions is there twice or more; [`Error::Overlength`] where more than 268,435,455 octets are to be written; [`Error::Memory`].
+    pub fn logged_precertificate_signed_by(
+        &self,
+        signing: CertificateRef<'_>,
+    ) -> Result<Vec<u8>, Error> {
+        ffi::logged_precertificate_signed_by(self.der, signing.as_der())
+    }
+
+    /// The rules that it breaks beyond the grammar, those of RFC 5280 and of the standards on keys and signatures that `docs/RULES.md` of
+    /// the sources lists, in their order; none where it breaks none.
     ///
     /// # Errors
     /// [`Error::Memory`].
@@ -535,6 +571,22 @@ impl Certificate {
         self.to_ref().subject_alt_name()
     }
 
+    /// Whether it is that of the server (RFC 9525 6), as of [`CertificateRef::matches_name`].
+    ///
+    /// # Errors
+    /// None but [`Error::Unexpected`].
+    pub fn matches_name(&self, name: &ServerName) -> Result<bool, Error> {
+        self.to_ref().matches_name(name)
+    }
+
+    /// Whether it is that of the mailbox (RFC 5280 7.5), as of [`CertificateRef::matches_email`].
+    ///
+    /// # Errors
+    /// None but [`Error::Unexpected`].
+    pub fn matches_email(&self, address: &EmailAddress) -> Result<bool, Error> {
+        self.to_ref().matches_email(address)
+    }
+
     /// The bytes that the signature is over, as they stand in the DER: a whole TBSCertificate.
     ///
     /// # Errors
@@ -589,6 +641,17 @@ impl Certificate {
     /// As of [`CertificateRef::logged_precertificate`].
     pub fn logged_precertificate(&self) -> Result<Vec<u8>, Error> {
         self.to_ref().logged_precertificate()
+    }
+
+    /// The TBSCertificate that a log has of the precertificate, which a precertificate signing certificate signed.
+    ///
+    /// # Errors
+    /// As of [`CertificateRef::logged_precertificate_signed_by`].
+    pub fn logged_precertificate_signed_by(
+        &self,
+        signing: CertificateRef<'_>,
+    ) -> Result<Vec<u8>, Error> {
+        self.to_ref().logged_precertificate_signed_by(signing)
     }
 
     /// The rules that it breaks beyond the grammar.

@@ -98,6 +98,12 @@ pub enum Error {
     /// The certificate in the description of a trust anchor has another name, key or key identifier than that (RFC 5914 2.5).
     OtherCertificate,
 
+    /// A text is neither a DNS name nor an IP address.
+    ServerName,
+
+    /// A text is no address of e-mail.
+    EmailAddress,
+
     /// The library answered what its header rules out: it is of another version.
     Unexpected,
 }
@@ -123,6 +129,8 @@ impl Error {
                 "the trust anchor has an extension that would have to be followed"
             }
             Error::OtherCertificate => "the trust anchor has a certificate of another name or key",
+            Error::ServerName => "neither a DNS name nor an IP address",
+            Error::EmailAddress => "no e-mail address",
             Error::Unexpected => "the C library is of another version",
         }
     }

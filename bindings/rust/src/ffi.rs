@@ -41,6 +41,7 @@ const VALUE: c_int = 5;
 const ABSENT: c_int = 6;
 const REPEATED: c_int = 7;
 const FAULT: c_int = 8;
+const LIMIT: c_int = 9;
 
 #[repr(C)]
 #[derive(Clone, Copy, Debug, Default, PartialEq, Eq, Hash)]
@@ -239,6 +240,21 @@ pub(crate) struct Signature {
 
 #[repr(C)]
 #[derive(Clone, Copy, Debug, Default)]
+pub(crate) struct ServerName {
+    pub(crate) name_len: usize,
+    pub(crate) address_len: u32,
+    pub(crate) address: [u8; 16],
+}
+
+#[repr(C)]
+#[derive(Clone, Copy, Debug, Default)]
+pub(crate) struct EmailAddress {
+    pub(crate) local: Span,
+    pub(crate) host: Span,
+}
+
+#[repr(C)]
+#[derive(Clone, Copy, Debug, Default)]
 pub(crate) struct PathFault {
     pub(crate) place: usize,
     pub(crate) reason: u32,
@@ -424,6 +440,25 @@ pub(crate) struct Timestamp {
     pub(crate) signature: Span,
 }
 
+#[repr(C)]
+#[derive(Clone, Copy, Debug, Default)]
+pub(crate) struct LogLeaf {
+    pub(crate) version: u32,
+    pub(crate) leaf_type: u32,
+    pub(crate) timestamp: u64,
+    pub(crate) entry_type: u32,
+    pub(crate) issuer_key_hash: Span,
+    pub(crate) certificate: Span,
+    pub(crate) extensions: Span,
+}
+
+#[repr(C)]
+#[derive(Clone, Copy, Debug, Default)]
+pub(crate) struct LogPrecertificate {
+    pub(crate) precertificate: Span,
+    pub(crate) chain: Span,
+}
+
 /// Bytes go in as a pointer and a length.
 type ValidateCall = unsafe extern "C" fn(
     *const u8,
@@ -498,6 +533,10 @@ extern "C" {
     fn x509_time_text(moment: u64, out: *mut u8, room: usize, written: *mut usize) -> c_int;
     fn x509_time_from_text(text: *const u8, len: usize, moment: *mut u64) -> c_int;
     fn x509_certificate_signature(input: *const u8, len: usize, signature: *mut Signature) -> c_int;
+    fn x509_server_name_view(text: *const u8, len: usize, name: *mut ServerName) -> c_int;
+    fn x509_email_address_view(text: *const u8, len: usize, address: *mut EmailAddress) -> c_int;
+    fn x509_certificate_matches_name(input: *const u8, len: usize, name: *const u8, name_len: usize, matches: *mut u32) -> c_int;
+    fn x509_certificate_matches_email(input: *const u8, len: usize, address: *const u8, address_len: usize, matches: *mut u32) -> c_int;
     fn x509_path_check(
         anchor: *const u8, anchor_len: usize, path: *const u8, path_len: usize, lens: *const usize, count: usize, moment: u64, fault: *mut PathFault
     ) -> c_int;
@@ -516,6 +555,11 @@ extern "C" {
         name_constraints_len: usize, policies: *const u8, policies_len: usize, settings: *const PathSettings, settings_size: usize, out: *mut u8, room: usize,
         answer: *mut PathAnswer
     ) -> c_int;
+    fn x509_path_find(
+        bytes: *const u8, len: usize, anchors: *const Span, anchor_count: usize, candidates: *const Span, candidate_count: usize, leaf: *const Span,
+        bad: *const BadLink, bad_count: usize, name_constraints: *const u8, name_constraints_len: usize, policies: *const u8, policies_len: usize,
+        settings: *const PathSettings, settings_size: usize, max_depth: u32, path: *mut usize, room: usize, found: *mut FoundPath
+    ) -> c_int;
     fn x509_crl_lookup(input: *const u8, len: usize, serial_number: *const u8, serial_number_len: usize, revocation: *mut Revocation) -> c_int;
     fn x509_crl_view(input: *const u8, len: usize, view: *mut Crl) -> c_int;
     fn x509_crl_entry_next(value: *const u8, len: usize, at: *mut usize, found: *mut CrlEntry) -> c_int;
@@ -525,6 +569,10 @@ extern "C" {
     fn x509_revocation_status(
         certificate: *const u8, certificate_len: usize, input: *const u8, len: usize, crls: *const SignedCrl, count: usize, settings: *const RevocationSettings,
         settings_size: usize, answer: *mut RevocationAnswer
+    ) -> c_int;
+    fn x509_crl_fault(
+        certificate: *const u8, certificate_len: usize, input: *const u8, len: usize, crls: *const SignedCrl, count: usize, settings: *const RevocationSettings,
+        settings_size: usize, index: usize, fault: *mut u32
     ) -> c_int;
     fn x509_request_view(input: *const u8, len: usize, view: *mut Request) -> c_int;
     fn x509_request_attribute_next(value: *const u8, len: usize, at: *mut usize, found: *mut RequestAttribute) -> c_int;
@@ -595,6 +643,27 @@ extern "C" {
     ) -> c_int;
     fn x509_logged_part(certificate: *const u8, certificate_len: usize, out: *mut u8, room: usize, written: *mut usize) -> c_int;
     fn x509_logged_precertificate(precertificate: *const u8, precertificate_len: usize, out: *mut u8, room: usize, written: *mut usize) -> c_int;
+    fn x509_logged_precertificate_signed_by(
+        precertificate: *const u8,
+        precertificate_len: usize,
+        signing: *const u8,
+        signing_len: usize,
+        out: *mut u8,
+        room: usize,
+        written: *mut usize,
+    ) -> c_int;
+    fn x509_log_leaf_view(input: *const u8, len: usize, view: *mut LogLeaf) -> c_int;
+    fn x509_log_precertificate_view(input: *const u8, len: usize, view: *mut LogPrecertificate) -> c_int;
+    fn x509_log_chain_next(input: *const u8, len: usize, at: *mut usize, found: *mut Span) -> c_int;
+    fn x509_tree_head_signed_data(
+        timestamp: u64,
+        tree_size: u64,
+        root_hash: *const u8,
+        root_hash_len: usize,
+        out: *mut u8,
+        room: usize,
+        written: *mut usize,
+    ) -> c_int;
     fn x509_version() -> u32;
 }
 
@@ -609,6 +678,8 @@ fn error(status: c_int, failed: Error) -> Error {
         VALUE => Error::Value,
         ABSENT => Error::Absent,
         REPEATED => Error::Repeated,
+        // of no call that is declared here
+        LIMIT => Error::Unexpected,
         _ => Error::Unexpected,
     }
 }
@@ -836,6 +907,9 @@ pub(crate) const ALGORITHM: View<Algorithm> = View::new(x509_algorithm_view);
 pub(crate) const ANCHOR: View<Anchor> = View::new(x509_anchor_view);
 pub(crate) const PATH_CONTROLS: View<PathControls> = View::new(x509_path_controls_view);
 pub(crate) const TIMESTAMP: View<Timestamp> = View::new(x509_timestamp_view);
+pub(crate) const LOG_LEAF: View<LogLeaf> = View::new(x509_log_leaf_view);
+pub(crate) const LOG_PRECERTIFICATE: View<LogPrecertificate> =
+    View::new(x509_log_precertificate_view);
 pub(crate) const KEY_USAGE: View<u32> = View::new(x509_key_usage);
 pub(crate) const BASIC_CONSTRAINTS: View<BasicConstraintsView> = View::new(x509_basic_constraints);
 pub(crate) const SUBJECT_KEY_IDENTIFIER: View<Span> = View::new(x509_subject_key_identifier);
@@ -910,6 +984,7 @@ pub(crate) static DIRECTORY_ATTRIBUTES: Walk<RequestAttribute> =
 pub(crate) static ATTRIBUTE_VALUES: Walk<Element> = Walk(Next::Plain(x509_attribute_value_next));
 pub(crate) static FINDINGS: Walk<Finding> = Walk(Next::Plain(x509_finding_next));
 pub(crate) static TIMESTAMPS: Walk<Span> = Walk(Next::Plain(x509_timestamp_next));
+pub(crate) static LOG_CHAIN: Walk<Span> = Walk(Next::Plain(x509_log_chain_next));
 pub(crate) static NAME: Walk<Span> = Walk(Next::Plain(x509_name_next));
 pub(crate) static RELATIVE_NAME: Walk<Attribute> = Walk(Next::Plain(x509_relative_name_next));
 pub(crate) static RELATIVE_NAME_UNDER_1: Walk<Attribute> =
@@ -967,6 +1042,23 @@ pub(crate) fn timestamp_signed_data_beside(
     certificate: &[u8],
 ) -> Result<Vec<u8>, Error> {
     filled!(x509_timestamp_signed_data_beside: [timestamp], [certificate])
+}
+
+/// The TBSCertificate of a precertificate that a precertificate signing certificate signed.
+pub(crate) fn logged_precertificate_signed_by(
+    precertificate: &[u8],
+    signing: &[u8],
+) -> Result<Vec<u8>, Error> {
+    filled!(x509_logged_precertificate_signed_by: [precertificate], [signing])
+}
+
+/// What the signature of a tree head is over.
+pub(crate) fn tree_head_signed_data(
+    milliseconds: u64,
+    tree_size: u64,
+    root_hash: &[u8],
+) -> Result<Vec<u8>, Error> {
+    filled!(x509_tree_head_signed_data: (milliseconds), (tree_size), [root_hash])
 }
 
 pub(crate) fn reencode(kind: &str, profile: u32, data: &[u8]) -> Result<Vec<u8>, Error> {
@@ -1031,6 +1123,41 @@ pub(crate) fn names_match(a: &[u8], b: &[u8]) -> Result<bool, Error> {
     let status = unsafe { lent!(x509_names_match: [a], [b], (&mut matches)) };
     accepted(status, matches == 1)
 }
+
+const SERVER_NAME: View<ServerName> = View::new(x509_server_name_view);
+const EMAIL_ADDRESS: View<EmailAddress> = View::new(x509_email_address_view);
+
+/// What the text of a server's name is.
+pub(crate) fn server_name(text: &[u8]) -> Result<ServerName, Error> {
+    match SERVER_NAME.of(text) {
+        Err(Error::Value) => Err(Error::ServerName),
+        other => other,
+    }
+}
+
+/// Where the parts of an address of e-mail stand.
+pub(crate) fn email_address(text: &[u8]) -> Result<EmailAddress, Error> {
+    match EMAIL_ADDRESS.of(text) {
+        Err(Error::Value) => Err(Error::EmailAddress),
+        other => other,
+    }
+}
+
+/// A call that says whether a certificate is that of a peer, whose name is a text.
+pub(crate) type Matches = Call<FindCall<u32>>;
+
+impl Matches {
+    pub(crate) fn are(&self, data: &[u8], name: &str) -> Result<bool, Error> {
+        let mut matches = 0;
+        let call = self.call;
+        // SAFETY: the header lets the call read both slices, which are lent for it, and fill in `matches`.
+        let status = unsafe { lent!(call: [data], [name], (&mut matches)) };
+        accepted(status, matches == 1)
+    }
+}
+
+pub(crate) const MATCHES_NAME: Matches = Matches::new(x509_certificate_matches_name);
+pub(crate) const MATCHES_EMAIL: Matches = Matches::new(x509_certificate_matches_email);
 
 /// The first fault of a path, but those of signatures.
 pub(crate) fn path_check(
@@ -1151,6 +1278,110 @@ pub(crate) fn path_validate(
     }
 }
 
+/// A certificate, and a key under which its signature doesn't hold.
+#[repr(C)]
+#[derive(Clone, Copy, Debug, Default)]
+pub(crate) struct BadLink {
+    pub(crate) certificate: Span,
+    pub(crate) key: Span,
+}
+
+#[repr(C)]
+#[derive(Clone, Copy, Debug, Default)]
+pub(crate) struct FoundPath {
+    pub(crate) anchor: usize,
+    pub(crate) count: usize,
+    pub(crate) place: usize,
+    pub(crate) reason: u32,
+}
+
+impl FoundPath {
+    pub(crate) fn fault(&self) -> PathFault {
+        PathFault {
+            place: self.place,
+            reason: self.reason,
+        }
+    }
+}
+
+/// What a search answers.
+pub(crate) enum Sought {
+    Found(FoundPath),
+    Refused(FoundPath),
+    UnknownIssuer,
+    Limit,
+}
+
+/// A search for a path: the bytes of all certificates and keys that it is about, and where each stands.
+pub(crate) struct Search {
+    bytes: Vec<u8>,
+    anchors: Vec<Span>,
+    candidates: Vec<Span>,
+    leaf: Span,
+    bad: Vec<BadLink>,
+    path: Vec<usize>,
+}
+
+impl Search {
+    pub(crate) fn new(anchors: &[&[u8]], candidates: &[&[u8]], leaf: &[u8]) -> Search {
+        let mut bytes = Vec::new();
+        let mut put = |given: &[&[u8]]| -> Vec<Span> {
+            given.iter().map(|it| append(&mut bytes, it)).collect()
+        };
+        let (anchors, candidates) = (put(anchors), put(candidates));
+        let leaf = append(&mut bytes, leaf);
+        Search {
+            bytes,
+            anchors,
+            candidates,
+            leaf,
+            bad: Vec::new(),
+            path: vec![0; 16],
+        }
+    }
+
+    /// Tells that the signature of the certificate isn't one under the key.
+    pub(crate) fn refuse(&mut self, certificate: &[u8], key: &[u8]) {
+        let link = BadLink {
+            certificate: append(&mut self.bytes, certificate),
+            key: append(&mut self.bytes, key),
+        };
+        self.bad.push(link);
+    }
+
+    /// The path that was answered last, by the numbers of the candidates.
+    pub(crate) fn path(&self, found: &FoundPath) -> &[usize] {
+        self.path.get(..found.count).unwrap_or_default()
+    }
+
+    /// What is answered of a path that holds but for signatures, and has none of those that were told.
+    pub(crate) fn next(
+        &mut self,
+        name_constraints: &[u8],
+        policies: &[u8],
+        settings: &PathSettings,
+        max_depth: u8,
+    ) -> Result<Sought, Error> {
+        loop {
+            let mut found = FoundPath::default();
+            // SAFETY: the header lets the call read the slices and `settings` of its size, which are lent for it, take any spans and numbers, and fill in
+            // `path[0..room)` and `found`, which this owns.
+            let status = unsafe {
+                lent!(x509_path_find: [self.bytes], [self.anchors], [self.candidates], (&self.leaf), [self.bad], [name_constraints], [policies],
+                    (settings), (size_of::<PathSettings>()), (u32::from(max_depth)), (self.path.as_mut_ptr()), (self.path.len()), (&mut found))
+            };
+            match status {
+                OK | FAULT if found.count > self.path.len() => self.path.resize(found.count, 0),
+                OK => return Ok(Sought::Found(found)),
+                FAULT => return Ok(Sought::Refused(found)),
+                ABSENT => return Ok(Sought::UnknownIssuer),
+                LIMIT => return Ok(Sought::Limit),
+                status => return Err(error(status, NO_TRUST)),
+            }
+        }
+    }
+}
+
 /// A CRL, and the name and the key of its signer.
 #[derive(Clone, Copy)]
 pub(crate) struct GivenCrl<'a> {
@@ -1169,14 +1400,10 @@ fn append(bytes: &mut Vec<u8>, part: &[u8]) -> Span {
     }
 }
 
-/// What is answered of CRLs, each with whether its signature was verified.
-pub(crate) fn revocation_status(
-    certificate: &[u8],
-    crls: &[(GivenCrl<'_>, bool)],
-    settings: RevocationSettings,
-) -> Result<RevocationAnswer, Error> {
+/// CRLs, each with whether its signature was verified, as a call is given them: their bytes, and where each stands there.
+fn joined(crls: &[(GivenCrl<'_>, bool)]) -> (Vec<u8>, Vec<SignedCrl>) {
     let mut joined = Vec::new();
-    let given: Vec<SignedCrl> = crls
+    let given = crls
         .iter()
         .map(|(it, is_verified)| SignedCrl {
             crl: append(&mut joined, it.crl),
@@ -1185,6 +1412,33 @@ pub(crate) fn revocation_status(
             verified: u32::from(*is_verified),
         })
         .collect();
+    (joined, given)
+}
+
+/// The number of the fault of the CRL at an index, among CRLs, each with whether its signature was verified; 0 where it has none.
+pub(crate) fn crl_fault(
+    certificate: &[u8],
+    crls: &[(GivenCrl<'_>, bool)],
+    settings: RevocationSettings,
+    index: usize,
+) -> Result<u32, Error> {
+    let (joined, given) = joined(crls);
+    let mut fault = 0;
+    // SAFETY: the header lets the call read both slices of bytes, `given` of as many structs as it is told, and `settings` of its size, which are lent for it,
+    // take any index, and fill in `fault`.
+    let status = unsafe {
+        lent!(x509_crl_fault: [certificate], [joined], [given], (&settings), (size_of::<RevocationSettings>()), (index), (&mut fault))
+    };
+    accepted(status, fault)
+}
+
+/// What is answered of CRLs, each with whether its signature was verified.
+pub(crate) fn revocation_status(
+    certificate: &[u8],
+    crls: &[(GivenCrl<'_>, bool)],
+    settings: RevocationSettings,
+) -> Result<RevocationAnswer, Error> {
+    let (joined, given) = joined(crls);
     let mut answer = RevocationAnswer::default();
     // SAFETY: the header lets the call read both slices of bytes, `given` of as many structs as it is told, and `settings` of its size, which are lent for it,
     // and fill in `answer`.

@@ -34,16 +34,19 @@ mod error;
 pub mod extension;
 #[allow(unsafe_code)]
 mod ffi;
+mod find;
 mod general_name;
 mod integer;
 mod key;
 mod lint;
+pub mod log;
 pub mod merkle;
 mod name;
 mod numbered;
 pub mod oid;
 mod owned;
 mod path;
+mod peer;
 mod revocation;
 mod text;
 mod time;
@@ -62,6 +65,7 @@ pub use crl::{Crl, CrlEntries, CrlEntry, CrlRef, IssuedEntries, Revocation};
 pub use csr::{AttributeValue, AttributeValues, Csr, CsrAttribute, CsrAttributes, CsrRef};
 pub use error::{Error, ProfilePart};
 pub use extension::{Extension, Extensions, ParsedExtension};
+pub use find::{find_path, verify_server, FindError, FoundPath, SearchLimits, Store, VerifyError};
 pub use general_name::{EdiPartyName, GeneralName, GeneralNames};
 pub use integer::{Integer, SerialNumber};
 pub use key::{AlgorithmIdentifier, KeyKind, PublicKey, RsaPublicKey, SignatureKind};
@@ -72,12 +76,13 @@ pub use name::{
 };
 pub use oid::ObjectIdentifier;
 pub use path::{
-    check_path, validate_path, working_key, FaultReason, PathError, PathFault, PathSettings,
-    Trusted, Validated, Verifier,
+    check_path, validate_path, working_key, FaultReason, OutOfDate, PathError, PathFault,
+    PathSettings, Trusted, Validated, Verifier,
 };
+pub use peer::{DnsName, EmailAddress, ServerName};
 pub use revocation::{
-    may_sign_crls, path_revocation_statuses, revocation_status, RevocationSettings,
-    RevocationStatus, SignedCrl,
+    crl_faults, may_sign_crls, path_crl_faults, path_revocation_statuses, revocation_status,
+    CrlFault, RevocationSettings, RevocationStatus, SignedCrl,
 };
 pub use time::{time_from_text, time_text};
 

@@ -283,6 +283,8 @@ pub mod purpose {
         TIME_STAMPING = "1.3.6.1.5.5.7.3.8", b"\x2b\x06\x01\x05\x05\x07\x03\x08";
         /// OCSPSigning
         OCSP_SIGNING = "1.3.6.1.5.5.7.3.9", b"\x2b\x06\x01\x05\x05\x07\x03\x09";
+        /// Certificate Transparency, of precertificate signing certificates (RFC 6962 3.1)
+        CERTIFICATE_TRANSPARENCY = "1.3.6.1.4.1.11129.2.4.4", b"\x2b\x06\x01\x04\x01\xd6\x79\x02\x04\x04";
     }
 }
 

@@ -114,6 +114,33 @@ pub struct PathFault {
     pub reason: FaultReason,
 }
 
+/// On which side of a validity a moment is.
+#[derive(Clone, Copy, Debug, PartialEq, Eq, PartialOrd, Ord, Hash)]
+pub enum OutOfDate {
+    /// It is before the first second: the certificate isn't valid yet.
+    NotYetValid,
+
+    /// It is after the last second: the certificate has expired.
+    Expired,
+}
+
+impl PathFault {
+    /// Of a fault [`Moment`](FaultReason::Moment) that a path has at the moment, on which side of the certificate's validity that is; `None` of other faults, and
+    /// where the path has no certificate that isn't valid then at that place.
+    pub fn out_of_date<B: AsRef<[u8]>>(&self, path: &[B], moment: SystemTime) -> Option<OutOfDate> {
+        if self.reason != FaultReason::Moment {
+            return None;
+        }
+        let certificate = CertificateRef::from_der(path.get(self.place)?.as_ref()).ok()?;
+        let validity = certificate.validity();
+        let moment = seconds(moment).ok()?;
+        if moment < seconds(validity.not_before).ok()? {
+            return Some(OutOfDate::NotYetValid);
+        }
+        (seconds(validity.not_after).ok()? < moment).then_some(OutOfDate::Expired)
+    }
+}
+
 impl fmt::Display for PathFault {
     fn fmt(&self, f: &mut fmt::Formatter<'_>) -> fmt::Result {
         write!(f, "certificate {} {}", self.place, self.reason.text())
@@ -149,7 +176,7 @@ impl From<Error> for PathError {
     }
 }
 
-fn is_signed(
+pub(crate) fn is_signed(
     key: &[u8],
     certificate: &CertificateRef<'_>,
     verifier: &impl Verifier,
@@ -485,7 +512,7 @@ impl PathSettings {
         for purpose in purposes {
             match PURPOSES.iter().position(|known| known == purpose) {
                 Some(bit) => asked.purposes |= 1 << bit,
-                None if own.is_some_and(|other| other != purpose) => return Err(Error::Value),
+                None if own.map_or(false, |other| other != purpose) => return Err(Error::Value),
                 None => own = Some(purpose),
             }
         }
@@ -499,6 +526,20 @@ impl PathSettings {
             return Err(Error::Value);
         }
         Ok(asked)
+    }
+
+    /// What a search answers under these settings.
+    pub(crate) fn search(
+        &self,
+        search: &mut ffi::Search,
+        max_depth: u8,
+    ) -> Result<ffi::Sought, Error> {
+        search.next(
+            &self.name_constraints,
+            &self.policies,
+            &self.to_ffi()?,
+            max_depth,
+        )
     }
 }
 
@@ -574,7 +615,16 @@ pub fn validate_path<'a, 'b, B: AsRef<[u8]>>(
     settings: &PathSettings,
     verifier: &impl Verifier,
 ) -> Result<Validated<'a>, PathError> {
-    let (trusted, path) = (trusted.into(), slices(path));
+    validate_slices(trusted.into(), slices(path), settings, verifier)
+}
+
+/// The same of slices.
+pub(crate) fn validate_slices<'a>(
+    trusted: Trusted<'_>,
+    path: Vec<&'a [u8]>,
+    settings: &PathSettings,
+    verifier: &impl Verifier,
+) -> Result<Validated<'a>, PathError> {
     let asked = settings.to_ffi()?;
     let (constraints, accepted) = (&settings.name_constraints, &settings.policies);
     let judged = ffi::path_validate(trusted.bytes(), &path, constraints, accepted, asked);

@@ -7,6 +7,7 @@ use crate::extension::{
 };
 use crate::ffi;
 use crate::name::NameRef;
+use crate::numbered::numbered;
 use crate::path::{
     validate_path, working_key, PathError, PathSettings, Trusted, Validated, Verifier,
 };
@@ -63,6 +64,39 @@ impl RevocationStatus {
     }
 }
 
+numbered! {
+    /// Why a CRL says nothing of a certificate (RFC 5280 6.3.3), in the order in which it is asked.
+    #[derive(Clone, Copy, Debug, PartialEq, Eq, PartialOrd, Ord, Hash)]
+    pub enum CrlFault {
+        /// The moment is before its thisUpdate (RFC 5280 5.1.2.4).
+        NotYetValid = 1,
+        /// The moment is after its nextUpdate, or it has none, and the settings don't take such a CRL (RFC 5280 5.1.2.5).
+        Expired = 2,
+        /// It has a critical extension that isn't an IssuingDistributionPoint or a delta CRL indicator, or can't be read (RFC 5280 5.2).
+        Critical = 3,
+        /// The algorithm in its signed part isn't the one outside it (RFC 5280 5.1.1.2).
+        Algorithm = 4,
+        /// It is a delta CRL, which says nothing but with a complete one (RFC 5280 5.2.4).
+        Delta = 5,
+        /// It has an IssuingDistributionPoint that can't be read, or several (RFC 5280 5.2.5).
+        IssuingPoint = 6,
+        /// Its issuer isn't the certificate's, nor in the cRLIssuer of a distribution point for which it is an indirect CRL (RFC 5280 6.3.3 (b) (1)).
+        Issuer = 7,
+        /// Its IssuingDistributionPoint says that it isn't about such certificates, but about those of authorities alone, say (RFC 5280 6.3.3 (b) (2)).
+        Scope = 8,
+        /// It is that of none of the certificate's distribution points, or for none of the reasons there (RFC 5280 6.3.3 (b) (2) (i), (d)).
+        Point = 9,
+        /// The signer's name isn't its issuer, or its key can't be read (RFC 5280 6.3.3 (f)); of a path, no signer of it counts.
+        Signer = 10,
+        /// The verifier doesn't accept its signature (RFC 5280 6.3.3 (g)).
+        Signature = 11,
+        /// An entry has a critical extension that isn't known or can't be read, or a CertificateIssuer that can't be used (RFC 5280 5.3).
+        Entry = 12,
+        /// A newer CRL for the same scope takes its place (RFC 5280 6.3.3 (a)).
+        Replaced = 13,
+    }
+}
+
 /// A CRL, and its signer: the certificate, the trust anchor, or the name and the key, under which it is to be verified. The key of a certificate is taken as it
 /// stands there: one that has its parameters from a key above is given as [`working_key`] says. That the signer is one whose CRLs count is for the caller to
 /// know: it is the issuer of the certificate, or another whose path is valid, and [`may_sign_crls`] says so of it (RFC 5280 6.3.3 (f)).
@@ -103,6 +137,13 @@ impl RevocationSettings {
     /// What they say of the moment. A CRL is in date that says by when the next one will be issued.
     pub fn new(moment: SystemTime) -> RevocationSettings {
         RevocationSettings { moment, flags: 0 }
+    }
+
+    fn asked(&self) -> Result<ffi::RevocationSettings, Error> {
+        Ok(ffi::RevocationSettings {
+            moment: seconds(self.moment)?,
+            flags: self.flags,
+        })
     }
 
     fn flag(&mut self, flag: u64, is_set: bool) -> &mut RevocationSettings {
@@ -163,11 +204,65 @@ pub fn revocation_status(
     settings: &RevocationSettings,
     verifier: &impl Verifier,
 ) -> Result<RevocationStatus, Error> {
-    let mut given = Vec::with_capacity(crls.len());
-    for it in crls {
-        given.push((it.signed()?, it.is_signed(verifier)?));
+    ask(certificate, &verified(crls, verifier)?, settings)
+}
+
+fn verified<'a>(
+    crls: &[SignedCrl<'a>],
+    verifier: &impl Verifier,
+) -> Result<Vec<(ffi::GivenCrl<'a>, bool)>, Error> {
+    crls.iter()
+        .map(|it| Ok((it.signed()?, it.is_signed(verifier)?)))
+        .collect()
+}
+
+/// Why each of the CRLs says nothing of the certificate, in their order; `None` of one that says of a reason or more whether it is revoked. A CRL without a fault
+/// isn't used by [`revocation_status`] only where those before it left no reason that it covers (RFC 5280 6.3.3 (e)).
+///
+/// ```
+/// use std::time::{Duration, UNIX_EPOCH};
+/// use x509_rattle::{crl_faults, CertificateRef, CrlFault, CrlRef, RevocationSettings, Signature, SignedCrl};
+///
+/// # let (der, list) = (include_bytes!("../../../examples/data/certificate.der"), include_bytes!("../../../examples/data/list.der"));
+/// let certificate = CertificateRef::from_der(der)?;
+/// let crls = [SignedCrl::new(CrlRef::from_der(list)?, certificate)];
+/// // the last second of the list is 2026-03-01T00:00:00Z
+/// let settings = RevocationSettings::new(UNIX_EPOCH + Duration::from_secs(1_772_323_201));
+/// let accepts = |_key: &[u8], _signature: &Signature| true;
+/// assert_eq!(crl_faults(certificate, &crls, &settings, &accepts)?, [Some(CrlFault::Expired)]);
+/// # Ok::<(), x509_rattle::Error>(())
+/// ```
+///
+/// # Errors
+/// Those of [`revocation_status`].
+pub fn crl_faults(
+    certificate: CertificateRef<'_>,
+    crls: &[SignedCrl<'_>],
+    settings: &RevocationSettings,
+    verifier: &impl Verifier,
+) -> Result<Vec<Option<CrlFault>>, Error> {
+    let given = verified(crls, verifier)?;
+    let places = 0..given.len();
+    places
+        .map(|place| fault_at(certificate, &given, settings, place))
+        .collect()
+}
+
+/// The fault of the CRL at a place.
+fn fault_at(
+    certificate: CertificateRef<'_>,
+    crls: &[(ffi::GivenCrl<'_>, bool)],
+    settings: &RevocationSettings,
+    place: usize,
+) -> Result<Option<CrlFault>, Error> {
+    let is_verified = matches!(crls.get(place), Some((_, true)));
+    match ffi::crl_fault(certificate.as_der(), crls, settings.asked()?, place) {
+        Ok(0) => Ok(None),
+        Ok(fault) => Ok(Some(CrlFault::found(fault)?)),
+        // of a CRL that isn't verified it may be the key alone that is none
+        Err(Error::Malformed | Error::Overlength) if !is_verified => Ok(Some(CrlFault::Signer)),
+        Err(error) => Err(error),
     }
-    ask(certificate, &given, settings)
 }
 
 impl<'a> SignedCrl<'a> {
@@ -186,11 +281,8 @@ fn ask(
     crls: &[(ffi::GivenCrl<'_>, bool)],
     settings: &RevocationSettings,
 ) -> Result<RevocationStatus, Error> {
-    let asked = ffi::RevocationSettings {
-        moment: seconds(settings.moment)?,
-        flags: settings.flags,
-    };
-    RevocationStatus::found(&ffi::revocation_status(certificate.as_der(), crls, asked)?)
+    let answer = ffi::revocation_status(certificate.as_der(), crls, settings.asked()?)?;
+    RevocationStatus::found(&answer)
 }
 
 /// What CRLs say of each certificate of a path that is valid under what is trusted, topmost first. The path is good where each of them
@@ -213,7 +305,33 @@ pub fn path_revocation_statuses<'a>(
     settings: &RevocationSettings,
     verifier: &impl Verifier,
 ) -> Result<Vec<RevocationStatus>, Error> {
-    let trusted = trusted.into();
+    judge(path, trusted.into(), crls, certificates, settings, verifier)?.path_statuses()
+}
+
+/// Why each of the CRLs says nothing of each certificate of the path, topmost first, as [`path_revocation_statuses`] asks them; `None` of one that says of a reason
+/// or more whether the certificate is revoked.
+///
+/// # Errors
+/// Those of [`path_revocation_statuses`].
+pub fn path_crl_faults<'a>(
+    path: &Validated<'a>,
+    trusted: impl Into<Trusted<'a>>,
+    crls: &[CrlRef<'a>],
+    certificates: &[CertificateRef<'a>],
+    settings: &RevocationSettings,
+    verifier: &impl Verifier,
+) -> Result<Vec<Vec<Option<CrlFault>>>, Error> {
+    judge(path, trusted.into(), crls, certificates, settings, verifier)?.path_faults()
+}
+
+fn judge<'j, 'a, V: Verifier>(
+    path: &'j Validated<'a>,
+    trusted: Trusted<'a>,
+    crls: &'j [CrlRef<'a>],
+    certificates: &[CertificateRef<'a>],
+    settings: &'j RevocationSettings,
+    verifier: &'j V,
+) -> Result<Judge<'j, 'a, V>, Error> {
     let mut places = Vec::with_capacity(crls.len());
     for (place, crl) in crls.iter().enumerate() {
         places.push((Reverse(crl.this_update()?), place));
@@ -240,7 +358,7 @@ pub fn path_revocation_statuses<'a>(
     for (_, place) in places {
         judge.give(place)?;
     }
-    judge.path_statuses()
+    Ok(judge)
 }
 
 /// Certificates below what is trusted, topmost first; none stand for what is trusted.
@@ -277,6 +395,15 @@ struct Judge<'j, 'a, V> {
 impl<'a, V: Verifier> Judge<'_, 'a, V> {
     /// Those of the path's certificates, topmost first.
     fn path_statuses(&mut self) -> Result<Vec<RevocationStatus>, Error> {
+        let signers = self.signers_that_count()?;
+        let path = self.path;
+        let ends = 1..=path.len();
+        ends.map(|end| self.status(&path[..end], &signers))
+            .collect()
+    }
+
+    /// The further signers that are unrevoked.
+    fn signers_that_count(&mut self) -> Result<HashSet<Chain<'a>>, Error> {
         let mut refused = HashSet::new();
         loop {
             let signers = self.unrevoked_signers(&refused)?;
@@ -288,11 +415,7 @@ impl<'a, V: Verifier> Judge<'_, 'a, V> {
                 }
             }
             if refused.len() == before {
-                let path = self.path;
-                let ends = 1..=path.len();
-                return ends
-                    .map(|end| self.status(&path[..end], &signers))
-                    .collect();
+                return Ok(signers);
             }
         }
     }
@@ -330,12 +453,7 @@ impl<'a, V: Verifier> Judge<'_, 'a, V> {
         chain: &[CertificateRef<'a>],
         signers: &HashSet<Chain<'a>>,
     ) -> Result<RevocationStatus, Error> {
-        let counts = |it: &Chain<'a>| it == chain || signers.contains(it);
-        let places = 0..self.given.len();
-        let used: Vec<usize> = places
-            .filter(|at| self.given[*at].further.iter().all(counts))
-            .collect();
-        let key = (chain.to_vec(), used);
+        let key = (chain.to_vec(), self.used(chain, signers));
         if let Some(found) = self.statuses.get(&key) {
             return Ok(*found);
         }
@@ -345,17 +463,90 @@ impl<'a, V: Verifier> Judge<'_, 'a, V> {
         Ok(found)
     }
 
-    fn status_by(
-        &self,
-        certificate: CertificateRef<'a>,
-        used: &[usize],
-    ) -> Result<RevocationStatus, Error> {
+    /// The CRLs of these signers, and those of the certificate's own key.
+    fn used(&self, chain: &[CertificateRef<'a>], signers: &HashSet<Chain<'a>>) -> Vec<usize> {
+        let counts = |it: &Chain<'a>| it == chain || signers.contains(it);
+        let places = 0..self.given.len();
+        places
+            .filter(|at| self.given[*at].further.iter().all(counts))
+            .collect()
+    }
+
+    fn given_crls(&self, used: &[usize]) -> Result<Vec<(ffi::GivenCrl<'_>, bool)>, Error> {
         let mut given = Vec::with_capacity(used.len());
         for it in used.iter().map(|at| &self.given[*at]) {
             let signer = named(self.signer_name(&it.signer), &it.key);
             let crl = SignedCrl::new(self.crls[it.place], signer);
             given.push((crl.signed()?, true));
         }
+        Ok(given)
+    }
+
+    /// Those of the CRLs, for each of the path's certificates.
+    fn path_faults(&mut self) -> Result<Vec<Vec<Option<CrlFault>>>, Error> {
+        let signers = self.signers_that_count()?;
+        let path = self.path;
+        let mut found = Vec::with_capacity(path.len());
+        for (end, certificate) in path.iter().enumerate() {
+            let used = self.used(&path[..=end], &signers);
+            found.push(self.faults(*certificate, &used)?);
+        }
+        Ok(found)
+    }
+
+    fn faults(
+        &mut self,
+        certificate: CertificateRef<'a>,
+        used: &[usize],
+    ) -> Result<Vec<Option<CrlFault>>, Error> {
+        let mut faults = Vec::with_capacity(self.crls.len());
+        for place in 0..self.crls.len() {
+            let mut asked: Option<Option<CrlFault>> = None;
+            let given = self.given_crls(used)?;
+            for (at, it) in used.iter().enumerate() {
+                if self.given[*it].place == place {
+                    let fault = fault_at(certificate, &given, self.settings, at)?;
+                    if asked.is_none() || fault.is_none() {
+                        asked = Some(fault);
+                    }
+                }
+            }
+            drop(given);
+            faults.push(match asked {
+                Some(fault) => fault,
+                None => Some(self.fault_without_signer(certificate, place)?),
+            });
+        }
+        Ok(faults)
+    }
+
+    /// The fault of a CRL of which no signer counts.
+    fn fault_without_signer(
+        &mut self,
+        certificate: CertificateRef<'a>,
+        place: usize,
+    ) -> Result<CrlFault, Error> {
+        let crl = self.crls[place];
+        let own = SignedCrl::new(crl, named(crl.issuer(), self.trusted.key()));
+        let given = [(own.signed()?, false)];
+        match fault_at(certificate, &given, self.settings, 0)? {
+            Some(CrlFault::Signature) | None => {}
+            Some(fault) => return Ok(fault),
+        }
+        let is_signed = self.given.iter().any(|it| it.place == place);
+        if is_signed || self.signers(&crl)?.is_empty() {
+            Ok(CrlFault::Signer)
+        } else {
+            Ok(CrlFault::Signature)
+        }
+    }
+
+    fn status_by(
+        &self,
+        certificate: CertificateRef<'a>,
+        used: &[usize],
+    ) -> Result<RevocationStatus, Error> {
+        let given = self.given_crls(used)?;
         match ask(certificate, &given, self.settings)? {
             RevocationStatus::Revoked { crl, date, reason } => {
                 let at = *used.get(crl).ok_or(Error::Unexpected)?;

@@ -128,8 +128,9 @@ fn structs_are_those_of_the_header() {
 
 #[test]
 fn statuses_are_those_of_the_header() {
-    let declared = between(DECLARED, "\nconst ", ";");
-    assert_eq!(declared.len(), 11);
+    let mut declared = between(DECLARED, "\nconst ", ";");
+    declared.retain(|told| told.contains(": c_int = "));
+    assert_eq!(declared.len(), 12);
     for told in declared {
         let (name, number) = told.split_once(": c_int = ").expect("a number");
         let forms = [

@@ -32,15 +32,20 @@ fn told(found: &Finding) -> (&str, Severity, &str, &str, &str) {
 
 #[test]
 fn certificates() {
-    // it is its own issuer's, so that it needs no AKI, and has no SKI
+    // it is its own issuer's, so that it needs no AKI, and has no SKI; its key is of ECDSA, and may encipher keys
     let it = CertificateRef::from_der(CERTIFICATE).expect("a certificate");
     let found = it.lint().expect("findings");
     let place = "tbsCertificate.extensions.subjectKeyIdentifier";
     let rule = "subject_key_identifier_absent";
-    assert_eq!(found.len(), 1);
+    assert_eq!(found.len(), 2);
     assert_eq!(
         told(&found[0]),
         (rule, Severity::Warning, "RFC 5280 4.2.1.2", place, "")
+    );
+    let (rule, place) = ("ec_key_usage_invalid", "tbsCertificate.extensions.keyUsage");
+    assert_eq!(
+        told(&found[1]),
+        (rule, Severity::Error, "RFC 8813 3", place, "")
     );
     assert_eq!(
         found[0].to_string(),

@@ -2,7 +2,7 @@
 use std::cell::{Cell, RefCell};
 use std::time::{Duration, SystemTime, UNIX_EPOCH};
 use x509_rattle::{
-    check_path, CertificateRef, Error, FaultReason, PathError, PathFault, Signature,
+    check_path, CertificateRef, Error, FaultReason, OutOfDate, PathError, PathFault, Signature,
 };
 
 const DER: &[u8] = include_bytes!("../../../examples/data/certificate.der");
@@ -66,6 +66,28 @@ fn moments() {
         check(&[DER], UNIX_EPOCH - Duration::from_secs(1), None).0,
         refused(Error::Value)
     );
+}
+
+#[test]
+fn the_side_of_a_moment() {
+    let side = |moment: u64| match check(&[DER], at(moment), None).0 {
+        Err(PathError::Fault(fault)) => fault.out_of_date(&[DER], at(moment)),
+        other => panic!("{other:?}"),
+    };
+    assert_eq!(side(FIRST_SECOND - 1), Some(OutOfDate::NotYetValid));
+    assert_eq!(side(LAST_SECOND + 1), Some(OutOfDate::Expired));
+    let other = PathFault {
+        place: 0,
+        reason: FaultReason::Signature,
+    };
+    assert_eq!(other.out_of_date(&[DER], at(LAST_SECOND + 1)), None);
+    // a path that hasn't the fault
+    let of_moment = PathFault {
+        place: 1,
+        reason: FaultReason::Moment,
+    };
+    assert_eq!(of_moment.out_of_date(&[DER], at(LAST_SECOND + 1)), None);
+    assert_eq!(of_moment.out_of_date(&[DER, DER], at(LAST_SECOND)), None);
 }
 
 #[test]

@@ -7,10 +7,11 @@ use x509_rattle::extension::{
     KeyUsage, ReasonFlags, ToExtension,
 };
 use x509_rattle::{
-    may_sign_crls, oid, path_revocation_statuses, revocation_status, validate_path, Certificate,
-    CertificateBuilder, CertificateRef, Crl, CrlBuilder, CrlEntryBuilder, CrlRef, Error,
-    GeneralName, Name, PathError, PathSettings, RevocationSettings, RevocationStatus, SerialNumber,
-    Signature, SignedCrl, Signer, TrustAnchor, Trusted, Validity, Verifier,
+    crl_faults, may_sign_crls, oid, path_crl_faults, path_revocation_statuses, revocation_status,
+    validate_path, Certificate, CertificateBuilder, CertificateRef, Crl, CrlBuilder,
+    CrlEntryBuilder, CrlFault, CrlRef, Error, GeneralName, Name, PathError, PathSettings,
+    RevocationSettings, RevocationStatus, SerialNumber, Signature, SignedCrl, Signer, TrustAnchor,
+    Trusted, Validity, Verifier,
 };
 
 // an AlgorithmIdentifier and keys of Ed25519 (RFC 8410 3, 4), whose bits are no keys
@@ -204,6 +205,83 @@ fn one_certificate() {
     ] {
         assert_eq!(status(&[(&crl, signer)]), all());
     }
+}
+
+fn faults(crls: &[(&Crl, &Certificate)]) -> Vec<Option<CrlFault>> {
+    let crls: Vec<SignedCrl> = crls
+        .iter()
+        .map(|(crl, signer)| SignedCrl::new(crl.to_ref(), signer.to_ref()))
+        .collect();
+    let settings = RevocationSettings::new(at(MOMENT));
+    crl_faults(leaf().to_ref(), &crls, &settings, &verifies).expect("faults")
+}
+
+/// Those of [`one_certificate`] where the status is undetermined, and of two for one scope that of the older one.
+#[test]
+fn faults_of_crls() {
+    let (issuer, root) = (signing(), root());
+    let good = list(&issuer, KEY, MOMENT, &[], None);
+    assert_eq!(faults(&[]), []);
+    let rows = [
+        (&good, &issuer, None),
+        (
+            &list(&issuer, LEAF_KEY, MOMENT, &[], None),
+            &issuer,
+            Some(CrlFault::Signature),
+        ),
+        (
+            &list(&root, KEY, MOMENT, &[], None),
+            &issuer,
+            Some(CrlFault::Issuer),
+        ),
+        (&good, &root, Some(CrlFault::Signer)),
+        (
+            &list(&issuer, KEY, MOMENT + 1, &[], None),
+            &issuer,
+            Some(CrlFault::NotYetValid),
+        ),
+        (
+            &list(&issuer, KEY, MOMENT - 11, &[], None),
+            &issuer,
+            Some(CrlFault::Expired),
+        ),
+        (
+            &list(&issuer, LEAF_KEY, MOMENT - 11, &[], None),
+            &issuer,
+            Some(CrlFault::Expired),
+        ),
+    ];
+    for (crl, signer, fault) in rows {
+        assert_eq!(faults(&[(crl, signer)]), [fault]);
+    }
+    let all: Vec<(&Crl, &Certificate)> = rows.iter().map(|(crl, by, _)| (*crl, *by)).collect();
+    let wanted: Vec<Option<CrlFault>> = rows.iter().map(|(_, _, fault)| *fault).collect();
+    assert_eq!(faults(&all), wanted);
+    let older = list(&issuer, KEY, MOMENT - 1, &[], None);
+    assert_eq!(
+        faults(&[(&older, &issuer), (&good, &issuer)]),
+        [Some(CrlFault::Replaced), None]
+    );
+}
+
+/// Of each certificate of a path those of all CRLs.
+#[test]
+fn faults_along_a_path() {
+    let (root, issuer, leaf) = (root(), signing(), leaf());
+    let of_root = list(&root, ROOT_KEY, MOMENT, &[], None);
+    let of_issuer = list(&issuer, KEY, MOMENT, &[], None);
+    let unsigned = list(&root, KEY, MOMENT, &[], None);
+    let path = [&issuer, &leaf].map(Certificate::as_der);
+    let crls = [&of_root, &of_issuer, &unsigned].map(|it| it.to_ref());
+    let settings = PathSettings::new(at(MOMENT));
+    let valid = validate_path(root.to_ref(), &path, &settings, &verifies).expect("a path");
+    let settings = RevocationSettings::new(at(MOMENT));
+    let found = path_crl_faults(&valid, root.to_ref(), &crls, &[], &settings, &verifies);
+    let (other, signature) = (Some(CrlFault::Issuer), Some(CrlFault::Signature));
+    assert_eq!(
+        found,
+        Ok(vec![vec![None, other, signature], vec![other, None, other]])
+    );
 }
 
 #[test]

@@ -3,7 +3,7 @@
 The names are those of `cryptography.x509` where both have the same thing. All bytes are taken apart by the C library; nothing here parses DER.
 """
 
-from . import merkle
+from . import logs, merkle, verification
 from ._cryptography import Signer
 from ._extension import ExtensionType
 from ._library import X509Error, library_version
@@ -49,6 +49,7 @@ from .extensions import (
     SubjectKeyIdentifier,
     UnrecognizedExtension,
 )
+from .finding import FoundPath, NoPath, find_path
 from .general_name import (
     DirectoryName,
     DNSName,
@@ -89,6 +90,7 @@ from .other_extensions import (
     TLSFeatureType,
 )
 from .path import PathFault, Verifier, check_path, working_key
+from .peer import email_address, server_name
 from .policies import (
     CertificatePolicies,
     CPSPointer,
@@ -112,7 +114,7 @@ from .request import (
     load_der_x509_csr,
     load_pem_x509_csr,
 )
-from .revocation import RevocationState, RevocationStatus, SignedCrl, may_sign_crls, path_revocation_statuses, revocation_status
+from .revocation import CrlFault, RevocationState, RevocationStatus, SignedCrl, may_sign_crls, path_revocation_statuses, revocation_status
 from .validation import ValidatedPath, validate_path
 
 __version__ = "0.1.0"
@@ -143,6 +145,7 @@ __all__ = [
     "CPSPointer",
     "CRLDistributionPoints",
     "CRLEntryExtensionOID",
+    "CrlFault",
     "CRLNumber",
     "CRLReason",
     "DeltaCRLIndicator",
@@ -152,6 +155,7 @@ __all__ = [
     "DNSName",
     "DuplicateExtension",
     "EDIPartyName",
+    "email_address",
     "Encoding",
     "escape_rfc4514_value",
     "ExtendedKeyUsage",
@@ -161,7 +165,9 @@ __all__ = [
     "ExtensionOID",
     "Extensions",
     "ExtensionType",
+    "find_path",
     "Finding",
+    "FoundPath",
     "FreshestCRL",
     "GeneralName",
     "GeneralNames",
@@ -183,6 +189,7 @@ __all__ = [
     "load_pem_x509_certificates",
     "load_pem_x509_crl",
     "load_pem_x509_csr",
+    "logs",
     "may_sign_crls",
     "merkle",
     "Name",
@@ -190,6 +197,7 @@ __all__ = [
     "NameConstraints",
     "NameOID",
     "NoticeReference",
+    "NoPath",
     "ObjectIdentifier",
     "OCSPNoCheck",
     "OtherName",
@@ -216,6 +224,7 @@ __all__ = [
     "RevokedCertificate",
     "RevokedCertificateBuilder",
     "RFC822Name",
+    "server_name",
     "Severity",
     "SignatureAlgorithm",
     "SignatureAlgorithmOID",
@@ -237,6 +246,7 @@ __all__ = [
     "UserNotice",
     "validate_path",
     "ValidatedPath",
+    "verification",
     "Verifier",
     "Version",
     "working_key",

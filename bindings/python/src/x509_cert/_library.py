@@ -13,7 +13,7 @@ import pathlib
 from typing import Any, Iterator, TypeVar
 
 OK, MEMORY, ROOM = 0, -1, -2
-OVERLENGTH, MALFORMED, FAILED, SET_DUPLICATE, VALUE, ABSENT, REPEATED, FAULT = range(1, 9)
+OVERLENGTH, MALFORMED, FAILED, SET_DUPLICATE, VALUE, ABSENT, REPEATED, FAULT, LIMIT = range(1, 10)
 RFC5280, RAW = 0, 1
 
 
@@ -29,6 +29,7 @@ class X509Error(ValueError):
         VALUE: "a value is out of range, or can't be written",
         ABSENT: "what was asked for isn't there",
         REPEATED: "an extension is there more than once",
+        LIMIT: "more would be tried than is allowed",
     }
 
     # what FAILED means of each call that answers it
@@ -40,6 +41,7 @@ class X509Error(ValueError):
         "x509_crl_issued_next": "an entry has its issuer twice",
         "x509_request_extensions": "the attribute that asks for extensions hasn't one value",
         "x509_path_validate": "the anchor has no name, or an extension twice",
+        "x509_path_find": "an anchor has no name, or an extension twice",
         "x509_path_validate_under_anchor": "the anchor has no name, an extension twice or one that would have to be followed, or the certificate of another",
         "x509_build_root": "a root's subject has a country, an organization and a common name, in that order, each alone in its relative name; `sign` makes a "
         "root of any other name",
@@ -48,8 +50,14 @@ class X509Error(ValueError):
         "x509_assemble": "the signed part has another algorithm",
     }
 
+    # what VALUE means of calls of which it says more
+    VALUES = {
+        **dict.fromkeys(("x509_server_name_view", "x509_certificate_matches_name"), "neither a DNS name nor an IP address"),
+        **dict.fromkeys(("x509_email_address_view", "x509_certificate_matches_email"), "no e-mail address"),
+    }
+
     def __init__(self, call: str, status: int, hint: str = "", place: int | None = None) -> None:
-        cause = self.CAUSES.get(call) if status == FAILED else None
+        cause = {FAILED: self.CAUSES, VALUE: self.VALUES}.get(status, {}).get(call)
         super().__init__(f"{call}: {cause or self.TEXTS.get(status, f'status {status}')}{hint}")
         self.status, self.place = status, place
 
@@ -102,6 +110,17 @@ class SignatureView(ctypes.Structure):
     bits: Span
 
     _fields_ = [*_spans("signed_part", "algorithm", "bits"), *_numbers("unused_bits")]
+
+
+class ServerNameView(ctypes.Structure):
+    _fields_ = [("name_len", ctypes.c_size_t), ("address_len", ctypes.c_uint32), ("address", ctypes.c_uint8 * 16)]
+
+
+class EmailAddressView(ctypes.Structure):
+    local: Span
+    host: Span
+
+    _fields_ = _spans("local", "host")
 
 
 class ExtensionEntry(ctypes.Structure):
@@ -292,6 +311,19 @@ class TimestampView(ctypes.Structure):
     ]
 
 
+class LogLeafView(ctypes.Structure):
+    _fields_ = [
+        *_numbers("version", "leaf_type"),
+        ("timestamp", ctypes.c_uint64),
+        *_numbers("entry_type"),
+        *_spans("issuer_key_hash", "certificate", "extensions"),
+    ]
+
+
+class LogPrecertificateView(ctypes.Structure):
+    _fields_ = _spans("precertificate", "chain")
+
+
 class RevocationView(ctypes.Structure):
     _fields_ = [("date", ctypes.c_uint64), ("reason", ctypes.c_int32)]
 
@@ -306,6 +338,17 @@ class PathSettings(ctypes.Structure):
 
 class PathAnswerView(ctypes.Structure):
     _fields_ = [("place", ctypes.c_size_t), *_numbers("reason"), *_spans("name", "key"), ("policies_len", ctypes.c_size_t)]
+
+
+class BadLink(ctypes.Structure):
+    certificate: Span
+    key: Span
+
+    _fields_ = _spans("certificate", "key")
+
+
+class FoundPathView(ctypes.Structure):
+    _fields_ = [("anchor", ctypes.c_size_t), ("count", ctypes.c_size_t), ("place", ctypes.c_size_t), *_numbers("reason")]
 
 
 class SignedCrlView(ctypes.Structure):

@@ -11,13 +11,15 @@ from typing import Any, NamedTuple, Sequence
 
 from ._given import der_of, instance, octets
 from ._keyed import Keyed
-from ._library import ABSENT, FAULT, OK, RAW, RFC5280, CertificateView, PathFaultView, SignatureView, Span, X509Error, fill, status_of, view
+from ._library import ABSENT, FAULT, OK, RAW, RFC5280, CertificateView, PathFaultView, SignatureView, Span, X509Error, fill, number, status_of, view
 from ._numbers import moment, whole_number
 from ._pem import blocks, refuse_pem
 from ._signed import Signed
 from .extensions import Extensions
+from .general_name import RFC822Name
 from .name import Name
 from .oid import ObjectIdentifier
+from .peer import ServerName, text_of_email, text_of_server
 
 
 class Version(enum.Enum):
@@ -106,6 +108,21 @@ class Certificate(Keyed, Signed):
     def extensions(self) -> Extensions:
         return Extensions.from_der(self._view.extensions.of(self._data))
 
+    def matches_name(self, name: ServerName) -> bool:
+        """Whether it is that of the server (RFC 9525 6): its SubjectAlternativeName has a name of it. A DNSName names a host where both are the same without regard
+        to the case of ASCII; one that begins with `*.` and has two labels or more behind it names each host that has these behind one label. An IPAddress names
+        a host where both have the same octets. Nothing else names one, nor does the common name; an extension that can't be decoded, or that is there twice,
+        names none. Whether the certificate is to be trusted is asked by `validate_path`.
+
+        The name is a text as `server_name` reads it, or a DNSName, an IPAddress or an address of `ipaddress`. An X509Error where it is neither a DNS name nor an
+        IP address."""
+        return number("x509_certificate_matches_name", self._data, text_of_server(name)) == 1
+
+    def matches_email(self, address: str | RFC822Name) -> bool:
+        """Whether it is that of the mailbox (RFC 5280 7.5): its SubjectAlternativeName has an RFC822Name with the same local part and the same host, the latter
+        without regard to the case of ASCII. An address in the subject names nothing. An X509Error where the text is no e-mail address."""
+        return number("x509_certificate_matches_email", self._data, text_of_email(address)) == 1
+
     @property
     def tbs_certificate_bytes(self) -> bytes:
         """The bytes that the signature is over, as they stand in the DER."""
@@ -121,6 +138,14 @@ class Certificate(Keyed, Signed):
             if error.status != ABSENT:
                 raise
         return fill("x509_logged_precertificate", self._data)
+
+    def tbs_precertificate_bytes_signed_by(self, signing: Certificate) -> bytes:
+        """The TBSCertificate that a log has of the precertificate, which a precertificate signing certificate signed (RFC 6962 3.1, 3.2): without the poison,
+        with the issuer of the signing certificate, and, where there is an authority key identifier, with the value that this extension has there. Whether that
+        certificate is one (its extended key usage has `ExtendedKeyUsageOID.CERTIFICATE_TRANSPARENCY`), and signed this one, isn't looked at. An X509Error
+        where there is no poison, where the signing certificate lacks an authority key identifier that this one has, and where one of these is there twice.
+        A certificate of `cryptography` is taken too."""
+        return fill("x509_logged_precertificate_signed_by", self._data, certificate_of(signing, "the signing certificate").public_bytes())
 
     @property
     def _signature(self) -> SignatureView:

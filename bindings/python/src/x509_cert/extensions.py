@@ -582,6 +582,15 @@ class CRLReason(ExtensionType):
 _WAYS_OF_LOGS = {(4, 1): RSA, (4, 3): ECDSA}
 
 
+def verify_of_log(info: bytes, way: tuple[int, int], data: bytes, signature: bytes) -> None:
+    """Verifies a signature of a log by the SubjectPublicKeyInfo of its key, and by the numbers of hash and signature."""
+    found = _WAYS_OF_LOGS.get(way)
+    algorithm = None if found is None else algorithm_of(found, "sha256")
+    if algorithm is None:
+        raise ValueError("the signatures of logs are by RSA or ECDSA with SHA-256")
+    _cryptography.verify(info, algorithm, data, signature)
+
+
 def _certificate_der(given: object, what: str) -> bytes:
     from .certificate import certificate_of
 
@@ -620,11 +629,7 @@ class SignedCertificateTimestamp:
         info = _cryptography.key_bytes(log_key, "the key of the log")
         if hashlib.sha256(info).digest() != self.log_id:
             raise ValueError("the key is that of another log")
-        way = _WAYS_OF_LOGS.get((self.hash_algorithm, self.signature_algorithm))
-        algorithm = None if way is None else algorithm_of(way, "sha256")
-        if algorithm is None:
-            raise ValueError("the signatures of logs are by RSA or ECDSA with SHA-256")
-        _cryptography.verify(info, algorithm, self.signature_input(certificate, issuer), self.signature)
+        verify_of_log(info, (self.hash_algorithm, self.signature_algorithm), self.signature_input(certificate, issuer), self.signature)
 
     def __eq__(self, other: object) -> bool:
         return isinstance(other, SignedCertificateTimestamp) and self.data == other.data

@@ -13,7 +13,8 @@ from .key import AlgorithmIdentifier
 
 
 class PathFault(Exception):
-    """What is wrong with a path: the place of a certificate in it, from 0, and the reason, of which `validate_path` alone tells those behind the first ten."""
+    """What is wrong with a path: the place of a certificate in it, from 0, and the reason, of which `validate_path` alone tells those behind the first ten. Of one
+    that isn't valid at the moment `is_expired` says whether it was valid before, or isn't valid yet; it is None of other reasons."""
 
     REASONS = (
         "is no certificate; has another algorithm in its signed part; has another issuer than the certificate above; isn't valid at the moment; "
@@ -23,12 +24,13 @@ class PathFault(Exception):
         "has a key for another use; has extensions, and another version than 3"
     ).split("; ")
 
-    def __init__(self, place: int, reason: int) -> None:
-        super().__init__(f"certificate {place} {self.REASONS[reason - 1]}")
-        self.place, self.reason = place, reason
+    def __init__(self, place: int, reason: int, is_expired: bool | None = None) -> None:
+        side = {None: "", True: ": it has expired", False: ": it isn't valid yet"}[is_expired]
+        super().__init__(f"certificate {place} {self.REASONS[reason - 1]}{side}")
+        self.place, self.reason, self.is_expired = place, reason, is_expired
 
 
-SIGNATURE_FAULT = 5
+MOMENT_FAULT, SIGNATURE_FAULT = 4, 5
 # what says whether bits are a signature: of the DER of a key and of an algorithm, of a message, and of the bits
 Verifier = Callable[[bytes, bytes, bytes, bytes], bool]
 
@@ -45,7 +47,8 @@ def check_path(
     begun = seconds(moment, "the moment")
     anchor = Certificate(_encoding(anchor, "the anchor"))
     given = _encodings(path)
-    certificates, _ = _verified(anchor.public_key_bytes, given, path_fault(anchor.public_bytes(), given, begun), verify, lambda above, key: key)
+    fault = path_fault(anchor.public_bytes(), given, begun)
+    certificates, _ = _verified(anchor.public_key_bytes, given, begun, fault, verify, lambda above, key: key)
     return certificates
 
 
@@ -73,10 +76,10 @@ def working_key(above: bytes, key: bytes) -> bytes:
 
 
 def _verified(
-    key: bytes, path: list[bytes], fault: tuple[int, int] | None, verify: Verifier | None, below: Callable[[bytes, bytes], bytes]
+    key: bytes, path: list[bytes], moment: int, fault: tuple[int, int] | None, verify: Verifier | None, below: Callable[[bytes, bytes], bytes]
 ) -> tuple[list[Certificate], bytes]:
-    """The certificates of a path under a key, of which that is the first fault but those of signatures, and the last key; `below` says how a key is used under
-    another.
+    """The certificates of a path under a key, of which that is the first fault at the moment but those of signatures, and the last key; `below` says how a key is
+    used under another.
 
     The first fault is that of the lowest place; of one place that with the lowest number.
     """
@@ -92,8 +95,13 @@ def _verified(
         certificates.append(certificate)
         key = below(key, certificate.public_key_bytes)
     if fault is not None:
-        raise PathFault(*fault)
+        raise PathFault(*fault, _is_expired(path, moment, *fault))
     return certificates, key
+
+
+def _is_expired(path: list[bytes], moment: int, place: int, reason: int) -> bool | None:
+    """Whether the certificate that isn't valid at the moment was valid before; None of another reason."""
+    return int(Certificate(path[place])._view.not_before) <= moment if reason == MOMENT_FAULT else None
 
 
 def _verifies(key: bytes, algorithm: bytes, message: bytes, signature: bytes) -> bool:

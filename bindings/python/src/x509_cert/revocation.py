@@ -7,10 +7,10 @@ import dataclasses
 import datetime
 import enum
 import itertools
-from typing import Iterable, Iterator
+from typing import Callable, Iterable, Iterator
 
 from ._given import instance, listed, octets, seconds
-from ._library import RevocationAnswerView, RevocationSettings, SignedCrlView, Span, X509Error, number, view
+from ._library import MALFORMED, OVERLENGTH, RevocationAnswerView, RevocationSettings, SignedCrlView, Span, X509Error, number, view
 from ._numbers import moment as moment_of
 from .certificate import Certificate
 from .crl import CertificateRevocationList
@@ -37,6 +37,37 @@ class RevocationState(enum.Enum):
     revoked = 2
 
 
+class CrlFault(enum.Enum):
+    """Why a CRL says nothing of a certificate (RFC 5280 6.3.3), in the order in which it is asked."""
+
+    #: the moment is before its thisUpdate
+    not_yet_valid = 1
+    #: the moment is after its nextUpdate, or it has none
+    expired = 2
+    #: it has a critical extension that isn't known, or can't be read
+    critical = 3
+    #: the algorithm in its signed part isn't the one outside it
+    algorithm = 4
+    #: it is a delta CRL, which says nothing but with a complete one
+    delta = 5
+    #: it has an IssuingDistributionPoint that can't be read
+    issuing_point = 6
+    #: its issuer isn't the certificate's, nor in the cRLIssuer of a distribution point for which it is an indirect CRL
+    issuer = 7
+    #: it isn't about such certificates, but about those of authorities alone, say
+    scope = 8
+    #: it is that of none of the certificate's distribution points, or for none of the reasons there
+    point = 9
+    #: the signer's name isn't its issuer; of a path, no signer of it counts
+    signer = 10
+    #: its signature isn't accepted
+    signature = 11
+    #: an entry has a critical extension that isn't known, or can't be read
+    entry = 12
+    #: a newer CRL for the same scope takes its place
+    replaced = 13
+
+
 @dataclasses.dataclass(frozen=True)
 class RevocationStatus:
     """What CRLs say of a certificate. Of one that is revoked: which CRL says so, by its place from 0, when it was, and why, `unspecified` where the entry gives
@@ -47,6 +78,17 @@ class RevocationStatus:
     date: datetime.datetime | None = None
     reason: ReasonFlags | None = None
     reasons: frozenset[ReasonFlags | str] = frozenset()
+    _tells: Callable[[], tuple[CrlFault | None, ...]] = dataclasses.field(default=tuple, repr=False, compare=False)
+
+    def __getstate__(self) -> dict[str, object]:
+        # what was asked isn't pickled: a status that was has no faults
+        return {name: it for name, it in self.__dict__.items() if name != "_tells"}
+
+    @property
+    def faults(self) -> tuple[CrlFault | None, ...]:
+        """Why each of the given CRLs says nothing of the certificate, in their order; None of one that says of a reason or more whether it is revoked. A CRL
+        without a fault isn't used only where those before it left no reason that it covers (RFC 5280 6.3.3 (e)). It is found out when it is asked."""
+        return self._tells()
 
     @property
     def is_unrevoked(self) -> bool:
@@ -97,7 +139,8 @@ def revocation_status(
     given = listed(crls, SignedCrl, "the CRLs")
     verify = _verifies if verify is None else verify
     verified = [_is_signed(it, verify) for it in given]
-    return _asked(instance(certificate, Certificate, "a certificate"), given, verified, _settings(moment, without_next_update, use_deltas))
+    question = _Question(instance(certificate, Certificate, "a certificate"), given, verified, _settings(moment, without_next_update, use_deltas))
+    return dataclasses.replace(question.status(), _tells=question.faults)
 
 
 def path_revocation_statuses(
@@ -190,9 +233,28 @@ class _Judge:
         if (chain, used) not in self.found:
             given = [self.given[at] for at in used]
             crls = [SignedCrl(self.crls[place], self.signer(signer)) for place, signer, _ in given]
-            status = _asked(chain[-1], crls, [True] * len(crls), self.settings)
+            question = _Question(chain[-1], crls, [True] * len(crls), self.settings)
+            status = dataclasses.replace(question.status(), _tells=lambda: self.faults(question, [place for place, _, _ in given]))
             self.found[chain, used] = status if status.crl is None else dataclasses.replace(status, crl=given[status.crl][0])
         return self.found[chain, used]
+
+    def faults(self, question: _Question, places: list[int]) -> tuple[CrlFault | None, ...]:
+        """Those of all CRLs, of which the ones at these places are asked."""
+        asked: dict[int, CrlFault | None] = {}
+        for at, place in enumerate(places):
+            fault = question.fault(at)
+            if place not in asked or fault is None:
+                asked[place] = fault
+        return tuple(asked[place] if place in asked else self.fault_of(question, place) for place in range(len(self.crls)))
+
+    def fault_of(self, question: _Question, place: int) -> CrlFault:
+        """That of a CRL of which no signer counts."""
+        named = SignedCrl(self.crls[place], (self.crls[place].issuer, _name_and_key(self.anchor)[1]))
+        fault = _Question(question.certificate, [named], [False], question.settings).fault(0)
+        if fault is not CrlFault.signature:
+            return CrlFault.signer if fault is None else fault
+        has_signer = any(True for _ in self.signers(self.crls[place]))
+        return CrlFault.signature if has_signer and all(it != place for it, _, _ in self.given) else CrlFault.signer
 
     def further(self, chain: _Chain) -> list[_Chain]:
         """The chains to the certificates of this one that aren't in the path."""
@@ -265,24 +327,48 @@ def _settings(moment: datetime.datetime, without_next_update: bool, use_deltas: 
     return RevocationSettings(seconds(moment, "the moment"), flags)
 
 
-def _asked(certificate: Certificate, crls: list[SignedCrl], verified: list[bool], settings: RevocationSettings) -> RevocationStatus:
-    """What those CRLs say that are verified."""
-    parts: list[bytes] = []
-    given = (SignedCrlView * len(crls))()
-    at = 0
-    for row, it, is_verified in zip(given, crls, verified):
-        name, key = _name_and_key(it.signer)
-        for field, part in (("crl", it.crl.public_bytes()), ("name", name.public_bytes()), ("key", key)):
-            setattr(row, field, Span(at, len(part)))
-            parts.append(part)
-            at += len(part)
-        row.verified = 1 if is_verified is True else 0
-    words = (certificate.public_bytes(), b"".join(parts), given, ctypes.c_size_t(len(crls)), ctypes.byref(settings), ctypes.c_size_t(ctypes.sizeof(settings)))
-    found = view("x509_revocation_status", RevocationAnswerView, *words)
-    state = RevocationState(int(found.status))
-    if state is RevocationState.revoked:
-        return RevocationStatus(state, int(found.crl), moment_of(int(found.date)), ReasonFlags(int(found.reason)))
-    return RevocationStatus(state, reasons=_reasons(int(found.reasons)))
+class _Question:
+    """What is asked of CRLs, of which those count that are verified."""
+
+    def __init__(self, certificate: Certificate, crls: list[SignedCrl], verified: list[bool], settings: RevocationSettings) -> None:
+        self.certificate, self.settings, self.count = certificate, settings, len(crls)
+        parts: list[bytes] = []
+        self.given = (SignedCrlView * len(crls))()
+        at = 0
+        for row, it, is_verified in zip(self.given, crls, verified):
+            name, key = _name_and_key(it.signer)
+            for field, part in (("crl", it.crl.public_bytes()), ("name", name.public_bytes()), ("key", key)):
+                setattr(row, field, Span(at, len(part)))
+                parts.append(part)
+                at += len(part)
+            row.verified = 1 if is_verified is True else 0
+        self.joined = b"".join(parts)
+
+    def words(self) -> tuple[object, ...]:
+        size = ctypes.c_size_t(ctypes.sizeof(self.settings))
+        return self.certificate.public_bytes(), self.joined, self.given, ctypes.c_size_t(self.count), ctypes.byref(self.settings), size
+
+    def status(self) -> RevocationStatus:
+        """What those CRLs say that are verified."""
+        found = view("x509_revocation_status", RevocationAnswerView, *self.words())
+        state = RevocationState(int(found.status))
+        if state is RevocationState.revoked:
+            return RevocationStatus(state, int(found.crl), moment_of(int(found.date)), ReasonFlags(int(found.reason)))
+        return RevocationStatus(state, reasons=_reasons(int(found.reasons)))
+
+    def fault(self, place: int) -> CrlFault | None:
+        """That of the CRL at the place; None where it has none."""
+        try:
+            found = number("x509_crl_fault", *self.words(), ctypes.c_size_t(place))
+        except X509Error as error:
+            # of a CRL that isn't verified it may be the key alone that is none
+            if int(self.given[place].verified) != 1 and error.status in (OVERLENGTH, MALFORMED):
+                return CrlFault.signer
+            raise
+        return CrlFault(found) if found else None
+
+    def faults(self) -> tuple[CrlFault | None, ...]:
+        return tuple(map(self.fault, range(self.count)))
 
 
 def _is_signed(given: SignedCrl, verify: Verifier) -> bool:

@@ -80,6 +80,38 @@ def validate_path(
     type that is looked at is to be one that can be read. Whether the last certificate is that of a host or a mailbox isn't asked, and revocation isn't looked
     at: both are the caller's. An X509Error where the anchor or the name constraints can't be followed.
     """
+    settings = _settings(
+        moment,
+        require_explicit_policy,
+        inhibit_policy_mapping,
+        inhibit_any_policy,
+        purposes,
+        is_chained,
+        key_usage,
+        allows_version_1,
+    )
+    call, trusted, key = _trusted(anchor)
+    given = _encodings(path)
+    lens = (ctypes.c_size_t * len(given))(*map(len, given))
+    words = (b"".join(given), lens, ctypes.c_size_t(len(given)), _constraints(name_constraints), _accepted(policies))
+    answer, status, found = _asked(call, *trusted, *words, ctypes.byref(settings), ctypes.c_size_t(ctypes.sizeof(settings)))
+    fault = (int(answer.place), int(answer.reason)) if status == FAULT else None
+    certificates, key = _verified(key, given, settings.moment, fault, verify, working_key)
+    valid = tuple(it.policy_identifier for it in CertificatePolicies.from_der(found))
+    return ValidatedPath(tuple(certificates), Name(answer.name.of(given[-1])), key, valid)
+
+
+def _settings(
+    moment: datetime.datetime,
+    require_explicit_policy: bool,
+    inhibit_policy_mapping: bool,
+    inhibit_any_policy: bool,
+    purposes: Iterable[ObjectIdentifier] | None,
+    is_chained: bool,
+    key_usage: KeyUsage | None,
+    allows_version_1: bool,
+) -> PathSettings:
+    """What is asked of a path, as the C library takes it."""
     flags = (
         _flag(require_explicit_policy, _EXPLICIT_POLICY)
         | _flag(inhibit_policy_mapping, _INHIBIT_POLICY_MAPPING)
@@ -90,15 +122,7 @@ def validate_path(
     usage = 0 if key_usage is None else instance(key_usage, KeyUsage, "key_usage").bits
     settings = PathSettings(seconds(moment, "the moment"), flags, usage)
     _ask_for(settings, purposes)
-    call, trusted, key = _trusted(anchor)
-    given = _encodings(path)
-    lens = (ctypes.c_size_t * len(given))(*map(len, given))
-    words = (b"".join(given), lens, ctypes.c_size_t(len(given)), _constraints(name_constraints), _accepted(policies))
-    answer, status, found = _asked(call, *trusted, *words, ctypes.byref(settings), ctypes.c_size_t(ctypes.sizeof(settings)))
-    fault = (int(answer.place), int(answer.reason)) if status == FAULT else None
-    certificates, key = _verified(key, given, fault, verify, working_key)
-    valid = tuple(it.policy_identifier for it in CertificatePolicies.from_der(found))
-    return ValidatedPath(tuple(certificates), Name(answer.name.of(given[-1])), key, valid)
+    return settings
 
 
 def _asked(call: str, *words: object) -> tuple[PathAnswerView, int, bytes]:
