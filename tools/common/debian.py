@@ -15,10 +15,12 @@ ABOUT = """ Certificates, CRLs, PKCS #10 requests (CSRs), trust anchors and sign
 """
 CLEANS = b"""#!/bin/sh
 set -e
-# what the interpreter has written beside the package's files
-if [ -d "$DPKG_ROOT/usr/lib/python3/dist-packages/x509_cert" ]; then
-    find "$DPKG_ROOT/usr/lib/python3/dist-packages/x509_cert" -type d -name __pycache__ -exec rm -rf {} +
-fi
+# what the interpreter has written beside the package's files, and beside the examples where they were run
+for folder in usr/lib/python3/dist-packages/x509_cert usr/share/doc/python3-x509-rattle/examples; do
+    if [ -d "$DPKG_ROOT/$folder" ]; then
+        find "$DPKG_ROOT/$folder" -type d -name __pycache__ -exec rm -rf {} +
+    fi
+done
 """
 
 

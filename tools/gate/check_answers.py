@@ -6,7 +6,7 @@ call gave it, and appends them at its end to the file that X509_ANSWERS names.
 
 Else it takes two such files, and tells each of these:
 - a call whose contract allows another answer than the header lists, or doesn't allow one of these, of X509_OK, X509_ROOM, X509_MEMORY, X509_ABSENT,
-  X509_REPEATED and X509_FAULT; which of the other refusals come is said by the contract's relations over the types;
+  X509_REPEATED, X509_FAULT and X509_LIMIT; which of the other refusals come is said by the contract's relations over the types;
 - an answer that the header lists, and that no test has seen with all memory (SEEN);
 - X509_MEMORY in SEEN, or an answer that the header doesn't list;
 - a call that lists X509_MEMORY, and that didn't answer it where each of its allocations was refused in turn (REFUSED).
@@ -23,16 +23,19 @@ from common.header import TOP, calls, statuses
 EXPORTS = TOP / "crates" / "x509_c" / "src"
 SPECS = TOP / "crates" / "x509_c_calls" / "specs"
 # how a contract names what a call answers, and the header; Refused is any of the others
-STATUSES = {"Done": "X509_OK", "NoRoom": "X509_ROOM", "Absent": "X509_ABSENT", "Repeated": "X509_REPEATED", "Faulty": "X509_FAULT"}
+STATUSES = {"Done": "X509_OK", "NoRoom": "X509_ROOM", "Absent": "X509_ABSENT", "Repeated": "X509_REPEATED", "Faulty": "X509_FAULT", "Limit": "X509_LIMIT"}
 # calls that take no memory, of which the contract says so by the refusals that it has, or by the type that is decoded
 TELLS_NONE = {
     "x509_signed_slice": "X509_MALFORMED is its one refusal",
     "x509_time_from_text": "X509_FAILED is its one refusal",
     "x509_may_sign_crls": "may_sign_crls of x509_c_calls, which it is, has a clause that says so",
     "x509_timestamp_next": "X509_MALFORMED is its one refusal",
+    "x509_log_chain_next": "X509_MALFORMED is its one refusal",
     "x509_finding_next": "X509_MALFORMED is its one refusal",
     "x509_extended_key_usage_next": "an object identifier wants no memory",
     "x509_policy_mappings_next": "a pair of object identifiers wants no memory",
+    "x509_server_name_view": "X509_VALUE is its one refusal",
+    "x509_email_address_view": "X509_VALUE is its one refusal",
 }
 # calls that may answer X509_MEMORY by their contract, and take none for any value
 TAKES_NONE = {
@@ -121,7 +124,7 @@ FRONT = """/* Made by check_answers.py of x509.h. */
 static unsigned seen[%d];
 static const char *const names[] = {%s};
 
-/* statuses are from -2 to 8 */
+/* statuses are from -2 to 9 */
 static x509_status note(int call, x509_status status)
 {
     seen[call] |= 1u << (status + 2);
@@ -133,7 +136,7 @@ __attribute__((destructor)) static void tell(void)
     const char *path = getenv("X509_ANSWERS");
     FILE *file = path == NULL ? NULL : fopen(path, "a");
     for (int call = 0; file != NULL && call < %d; call++)
-        for (int status = -2; status <= 8; status++)
+        for (int status = -2; status <= 9; status++)
             if (seen[call] & 1u << (status + 2))
                 fprintf(file, "%%s %%d\\n", names[call], status);
     if (file != NULL)

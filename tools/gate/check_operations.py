@@ -34,7 +34,7 @@ def rust_names():
     found = set()
     for module in re.findall(r"^pub mod (\w+);", (RUST / "lib.rs").read_text(encoding="utf-8"), re.M):
         text = (RUST / f"{module}.rs").read_text(encoding="utf-8")
-        found.update(f"{module}::{name}" for name in re.findall(r"^pub (?:const|fn) (\w+)", text, re.M))
+        found.update(f"{module}::{name}" for name in re.findall(r"^pub (?:const|fn|struct|enum|trait) (\w+)", text, re.M))
     for name in ("lib.rs", "extension.rs"):
         text = (RUST / name).read_text(encoding="utf-8")
         found.update(re.findall(r"^pub fn (\w+)", text, re.M))
@@ -64,7 +64,7 @@ def python_names():
     def members(name):
         it = classes.get(name)
         if it is None:
-            return {part.name for part in files[name].body if isinstance(part, ast.FunctionDef)} if name in files else set()
+            return {part.name for part in files[name].body if isinstance(part, (ast.ClassDef, ast.FunctionDef))} if name in files else set()
         own = {part.name for part in it.body if isinstance(part, ast.FunctionDef)}
         for part in ast.walk(it):
             if isinstance(part, ast.Attribute) and isinstance(part.ctx, ast.Store) and isinstance(part.value, ast.Name) and part.value.id == "self":

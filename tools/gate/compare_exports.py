@@ -31,7 +31,7 @@ def layouts():
     found = {}
     for file in sorted((TOP / "crates" / "x509_c_calls" / "src").rglob("*.rt")):
         for it in STRUCT.finditer(file.read_text(encoding="utf-8")):
-            found[it[1]] = re.findall(r"^    pub (\w+): (\w+),$", it[2], re.M)
+            found[it[1]] = re.findall(r"^    pub (\w+): (\w+|\[\w+; \d+\]),$", it[2], re.M)
     return found
 
 
@@ -42,9 +42,9 @@ def in_c(kind):
     found = re.fullmatch(r"&(mut )?\[(\w+)\]", kind)
     if found:
         return [f"{'' if found[1] else 'const '}{NUMBERS.get(found[2], found[2])} *", "size_t"]
-    found = re.fullmatch(r"&mut (\w+)", kind)
+    found = re.fullmatch(r"&(mut )?(\w+)", kind)
     if found:
-        return [f"{NUMBERS.get(found[1], found[1])} *"]
+        return [f"{'' if found[1] else 'const '}{NUMBERS.get(found[2], found[2])} *"]
     return [NUMBERS[kind]]
 
 
@@ -75,6 +75,17 @@ def differences():
     yield from differences_of_structs(same)
 
 
+def in_struct(field):
+    """The type of a field of the header, with the number of its members where it is an array."""
+    return f"{field.kind}[{field.count}]" if field.count else field.kind
+
+
+def in_c_struct(kind):
+    """The same of a field of the library."""
+    found = re.fullmatch(r"\[(\w+); (\d+)\]", kind)
+    return f"{NUMBERS.get(found[1])}[{found[2]}]" if found else NUMBERS.get(kind)
+
+
 def differences_of_structs(same):
     """`same` says which struct of the library is which of the header; those within them are found on the way."""
     header, library, seen = structs(), layouts(), set()
@@ -94,8 +105,8 @@ def differences_of_structs(same):
         for it, (field, kind) in zip(theirs, ours):
             if it.kind.startswith("x509_"):
                 same.setdefault(it.kind, set()).add(kind)
-            elif it.kind != NUMBERS.get(kind):
-                yield f"{name}: {field} is {it.kind}, and {kind}"
+            elif in_struct(it) != in_c_struct(kind):
+                yield f"{name}: {field} is {in_struct(it)}, and {in_c_struct(kind)}"
     named = {name for name, _ in seen} | {it.kind for call in calls() for it in call.parameters if it.is_const}
     yield from (f"{name} is a struct of x509.h that no call takes or fills in" for name in sorted(header.keys() - named))
 

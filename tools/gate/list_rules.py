@@ -45,9 +45,20 @@ class Rules(dict):
         super().__init__()
         for path in sorted(RULES.glob("*.rt")):
             self.update(rules_of(path, OWNERS.get(path.stem, "")))
-        self.update(rules_of(RULES / "constraint.rt", "anchor:"))  # AnchorRule has those on name constraints as they are
+        self.update(rules_of(RULES / "constraint.rt", "anchor:"))  # anchors have those on name constraints as they are
+        docs = docs_of(RULES.with_suffix(".rt").read_text())
+        for owner, variant in MALFORMED.items():
+            severity, section, _ = self[("crl:" if owner == "crl:" else "") + "extension_malformed"]
+            self[owner + "extension_malformed"] = severity, section, docs[variant]
 
 
+# The rules that an extension is malformed are variants of `Rule`, with its type; CSRs and anchors have them with the section of certificates.
+MALFORMED = {
+    "": "ExtensionMalformed",
+    "crl:": "CrlExtensionMalformed",
+    "csr:": "RequestExtensionMalformed",
+    "anchor:": "AnchorExtensionMalformed",
+}
 OWNERS = {"crl_entry": "crl:", "crl_extension": "crl:", "crl_field": "crl:", "request": "csr:", "anchor": "anchor:"}
 
 

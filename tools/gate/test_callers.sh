@@ -237,6 +237,27 @@ if "${CC:-cc}" "$folder/tried.c" -lcrypto -o "$folder/tried" 2>"$folder/said"; t
 else
     echo "left out, since libcrypto 3 with its headers isn't installed: paths and an authority in C"
 fi
+printf '%s\n' '#include <openssl/ssl.h>' 'int main(void) { return SSL_CTX_set_cert_verify_callback == NULL; }' >"$folder/tried.c"
+if ! "${CC:-cc}" "$folder/tried.c" -lssl -lcrypto -o "$folder/tried" 2>"$folder/said"; then
+    echo "left out, since libssl 3 with its headers isn't installed: a TLS client in C"
+elif ! python3 -c "import cryptography" 2>/dev/null; then
+    echo "left out, since Python's cryptography isn't installed: a TLS client in C"
+elif has openssl "a TLS client in C"; then
+    callers+=(tls_client)
+fi
+
+# usage: run_tests NAME WORDS..: a run of tests passes
+run_tests() {
+    local name=$1
+    shift
+    if "$@" >"$folder/said" 2>&1; then
+        echo "passed: $name"
+    else
+        echo "failed: $name:"
+        cat "$folder/said"
+        failed=1
+    fi
+}
 
 # usage: compile SUFFIX FLAGS..: the callers in C
 compile() {
@@ -244,7 +265,10 @@ compile() {
     shift
     for name in "${callers[@]}"; do
         libraries=("$folder/libx509_c.a" "$folder/liblibc_c.a")
-        case $name in path | authority | revoked | timestamps) libraries+=(-lcrypto) ;; esac
+        case $name in
+            path | authority | revoked | timestamps) libraries+=(-lcrypto) ;;
+            tls_client) libraries+=(-lssl -lcrypto) ;;
+        esac
         "${compiler[@]}" "$@" "$top/examples/c/$name.c" "${libraries[@]}" -o "$folder/$name$suffix"
     done
 }
@@ -267,6 +291,7 @@ run_c() {
     [ ! -e "$folder/authority$suffix" ] || authority "$name" "$@" "$folder/authority$suffix"
     [ ! -e "$folder/revoked$suffix" ] || revoked "$name" "$@" "$folder/revoked$suffix"
     [ ! -e "$folder/timestamps$suffix" ] || timestamps "$name" "$@" "$folder/timestamps$suffix"
+    [ ! -e "$folder/tls_client$suffix" ] || run_tests "$name, a TLS client and its servers" python3 -B "$gate/test_tls.py" "$@" "$folder/tls_client$suffix"
 }
 
 # usage: run_spoilt NAME SUFFIX: the checker of paths in C says of spoilt paths what that in Python does
@@ -342,19 +367,6 @@ if has valgrind "runs that look for leaks and bad reads"; then
     run_c "C under valgrind" "" "${watched[@]}"
     wants "C under valgrind, each allocation refused" 0 "$folder/calls.txt" "${watched[@]}" "$folder/refuse_memory" "${files[@]}"
 fi
-
-# usage: run_tests NAME WORDS..: a run of tests passes
-run_tests() {
-    local name=$1
-    shift
-    if "$@" >"$folder/said" 2>&1; then
-        echo "passed: $name"
-    else
-        echo "failed: $name:"
-        cat "$folder/said"
-        failed=1
-    fi
-}
 
 # the tests of the crate for Rust under valgrind, and with AddressSanitizer where the compiler has it, as that of a release has behind RUSTC_BOOTSTRAP. Some
 # lend bytes for good, so leaks aren't looked for here: the library's are above.
@@ -442,13 +454,24 @@ if has python3 "the caller in Python, and wide and deep values"; then
         run_tests "Python, the types of the package" mypy --strict --no-warn-unused-ignores --cache-dir "$folder/mypy" "$top/bindings/python/src/x509_cert"
     env X509_LIBRARY="$folder/libx509.so" PYTHONPATH="$top/bindings/python/src" python3 -B "$gate/try_pkits.py" || failed=1
     if ! python3 -c "import cryptography" 2>/dev/null; then
-        echo "left out, since Python's cryptography isn't installed: CRLs beside openssl"
-    elif has openssl "CRLs beside openssl"; then
-        run_tests "CRLs beside openssl" python3 -B -W ignore "$robustness/compare_revocation.py" "$top/bindings/python/src" "$folder/libx509.so" --cases 200
+        echo "left out, since Python's cryptography isn't installed: CRLs and SCTs beside openssl"
+    else
+        ! has openssl "CRLs beside openssl" ||
+            run_tests "CRLs beside openssl" python3 -B -W ignore "$robustness/compare_revocation.py" "$top/bindings/python/src" "$folder/libx509.so" --cases 200
+        if [ -e "$folder/timestamps" ]; then
+            run_tests "SCTs beside openssl" python3 -B -W ignore "$robustness/compare_timestamps.py" "$top/bindings/python/src" "$folder/libx509.so" --cases 400 \
+                --show "$top/crates/x509_show/out/x509_show"
+        else
+            echo "left out, since libcrypto 3 with its headers isn't installed: SCTs beside openssl"
+        fi
     fi
+    run_tests "paths beside trying every path" python3 -B "$robustness/compare_forests.py" "$top/bindings/python/src" "$folder/libx509.so" --forests 100
     run_tests "policies beside the valid policy tree" python3 -B "$robustness/compare_policies.py" --chains 5000 --library "$folder/libx509.so"
     python3 -B "$robustness/hostile_sizes.py" --rows "$folder"
     wants "C, each allocation refused of wide and deep values" 0 "$folder/calls.txt" "$folder/refuse_memory" "${files[@]}" "$folder/rows" "$folder/answers"
 fi
 "$top/tools/gate/test_install.sh" || failed=1
+if has python3 "packages over the library, installed and removed" && has dpkg-deb "packages over the library, installed and removed"; then
+    env -u X509_LIBRARY -u CARGO_TARGET_DIR python3 -B "$gate/test_release.py" --over "$folder" || failed=1
+fi
 exit "$failed"

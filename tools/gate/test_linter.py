@@ -100,10 +100,11 @@ def tbs_certificate(
     subject=SUBJECT,
     unique=b"",
     extensions=LEAF,
+    key=KEY,
 ):
     """The signed part of a certificate (RFC 5280 4.1.2); with `extensions=None` it has none."""
     behind = b"" if extensions is None else context(3, sequence(*extensions))
-    return sequence(version, serial, inner, issuer, dates, subject, KEY, unique, behind)
+    return sequence(version, serial, inner, issuer, dates, subject, key, unique, behind)
 
 
 def certificate(outer=ECDSA_SHA256, **fields):
@@ -746,6 +747,104 @@ def ldap_rules(name, section, with_uri):
         yield with_uri(text), []
 
 
+def pkcs_1(number, *parameters):
+    """An algorithm of RSA (RFC 8017 C)."""
+    return sequence(object_identifier(1, 2, 840, 113549, 1, 1, number), *parameters)
+
+
+def ecdsa_with(number, *parameters):
+    """ECDSA with a hash function (RFC 5758 3.2)."""
+    return sequence(object_identifier(1, 2, 840, 10045, 4, 3, number), *parameters)
+
+
+def edwards(number, *parameters):
+    """An algorithm of RFC 8410 3."""
+    return sequence(object_identifier(1, 3, 101, number), *parameters)
+
+
+def signed_by(algorithm):
+    return certificate(inner=algorithm, outer=algorithm)
+
+
+def with_key(algorithm, octets, usage=DIGITAL_SIGNATURE):
+    usages = () if usage is None else (ce(15, usage, True),)
+    return certificate(key=sequence(algorithm, bit_string(octets)), extensions=(AKI, SKI, *usages))
+
+
+def public_key_rules():
+    """Public keys and algorithms of signatures (RFC 3279, 4055, 5480, 5758, 8017, 8410, 8813, 9295)."""
+
+    def of(name, section, standard):
+        return [of_standard("error", name, standard, section)]
+
+    for number in (11, 12, 13, 14):
+        yield signed_by(pkcs_1(number, NULL)), []
+        for parameters in ((), (integer(0),)):
+            yield signed_by(pkcs_1(number, *parameters)), of("rsa_signature_parameters_not_null", "5", "RFC 4055")
+    for number in (2, 4, 5):
+        yield signed_by(pkcs_1(number, NULL)), []
+        yield signed_by(pkcs_1(number)), of("old_rsa_signature_parameters_not_null", "2.2.1", "RFC 3279")
+    yield signed_by(pkcs_1(10, sequence())), []
+    yield signed_by(pkcs_1(10)), of("pss_signature_parameters_absent", "3.1", "RFC 4055")
+    for number in (1, 2, 3, 4):
+        yield signed_by(ecdsa_with(number)), []
+        yield signed_by(ecdsa_with(number, NULL)), of("ecdsa_signature_parameters_present", "3.2", "RFC 5758")
+    for number in (112, 113):
+        yield signed_by(edwards(number)), []
+        yield signed_by(edwards(number, NULL)), of("edwards_signature_parameters_present", "3", "RFC 8410")
+    rsa, right = pkcs_1(1, NULL), sequence(integer(35), integer(3))
+    yield with_key(rsa, right), []
+    for algorithm in (pkcs_1(1), pkcs_1(1, sequence())):
+        yield with_key(algorithm, right), of("rsa_key_parameters_not_null", "2.3.1", "RFC 3279")
+    negative = element(0x02, b"\xff")
+    for odd in (b"", b"\x30", NULL, integer(35), sequence(integer(35)), sequence(integer(35), integer(3), integer(1)), right + b"\0"):
+        yield with_key(rsa, odd), of("rsa_public_key_malformed", "2.3.1", "RFC 3279")
+    for odd in (sequence(negative, integer(3)), sequence(integer(35), negative), sequence(integer(35), octet_string(b"\3"))):
+        yield with_key(rsa, odd), of("rsa_public_key_malformed", "2.3.1", "RFC 3279")
+    for number in (0, 34, 256):
+        yield with_key(rsa, sequence(integer(number), integer(3))), of("rsa_modulus_even", "3.1", "RFC 8017")
+    for number in (1, 2, 65536):
+        yield with_key(rsa, sequence(integer(35), integer(number))), of("rsa_exponent_invalid", "3.1", "RFC 8017")
+    yield with_key(rsa, sequence(integer(35), integer(65537))), []
+    yield with_key(rsa, sequence(integer(2**2048 - 1), integer(2**256 + 1)), bit_string(b"\xb0", 4)), []
+    both = [*of("rsa_modulus_even", "3.1", "RFC 8017"), *of("rsa_exponent_invalid", "3.1", "RFC 8017")]
+    yield with_key(pkcs_1(1), sequence(integer(0), integer(0))), [*of("rsa_key_parameters_not_null", "2.3.1", "RFC 3279"), *both]
+    yield with_key(pkcs_1(10), right), []
+    ec = object_identifier(1, 2, 840, 10045, 2, 1)
+    curves = (object_identifier(1, 2, 840, 10045, 3, 1, 7), 32), (object_identifier(1, 3, 132, 0, 34), 48), (object_identifier(1, 3, 132, 0, 35), 66)
+    for parameters in ((), (NULL,), (sequence(integer(1)),)):
+        yield with_key(sequence(ec, *parameters), b"\4" + bytes(64)), of("ec_parameters_not_named", "2.1.1", "RFC 5480")
+    invalid = of("ec_point_invalid", "2.2", "RFC 5480")
+    for curve, size in curves:
+        algorithm = sequence(ec, curve)
+        for octets in (b"\4" + bytes(2 * size), b"\2" + bytes(size), b"\3" + bytes(size)):
+            yield with_key(algorithm, octets), []
+        for octets in (b"", b"\4" + bytes(2 * size - 1), b"\4" + bytes(2 * size + 1), b"\4" + bytes(size), b"\2" + bytes(2 * size), b"\6" + bytes(2 * size)):
+            yield with_key(algorithm, octets), invalid
+        for bits in (b"\xa0", b"\x90"):
+            yield with_key(algorithm, b"\4" + bytes(2 * size), bit_string(bits, 4 if bits == b"\x90" else 5)), of("ec_key_usage_invalid", "3", "RFC 8813")
+    yield with_key(sequence(ec, object_identifier(1, 3, 132, 0, 10)), b"\4"), []
+    for usage in (bit_string(b"\x88", 3), bit_string(b"\xc9"), None):
+        yield with_key(sequence(ec, curves[0][0]), b"\4" + bytes(64), usage), []
+    agreement = bit_string(b"\x08", 3)
+    for number, size, usage in ((110, 32, agreement), (111, 56, agreement), (112, 32, DIGITAL_SIGNATURE), (113, 57, DIGITAL_SIGNATURE)):
+        yield with_key(edwards(number), bytes(size), usage), []
+        yield with_key(edwards(number, NULL), bytes(size), usage), of("edwards_key_parameters_present", "3", "RFC 8410")
+        for other in (0, size - 1, size + 1):
+            yield with_key(edwards(number), bytes(other), usage), of("edwards_key_length", "4", "RFC 8410")
+    for number, size in ((112, 32), (113, 57)):
+        for usage in (bit_string(b"\xa0", 5), bit_string(b"\x90", 4), bit_string(b"\x88", 3), bit_string(b"\x81"), bit_string(b"\x80\x80", 7)):
+            yield with_key(edwards(number), bytes(size), usage), of("edwards_key_usage_invalid", "3", "RFC 9295")
+        for usage in (bit_string(b"\xc0", 6), bit_string(b"\x42", 1), None):
+            yield with_key(edwards(number), bytes(size), usage), []
+        key = sequence(edwards(number), bit_string(bytes(size)))
+        yield certificate(key=key, extensions=CA), []
+    for number, size in ((110, 32), (111, 56)):
+        yield with_key(edwards(number), bytes(size)), of("montgomery_key_without_agreement", "5", "RFC 8410")
+        for usage in (bit_string(b"\x09"), bit_string(b"\x08\x80", 7), None):
+            yield with_key(edwards(number), bytes(size), usage), []
+
+
 def crl_field_rules():
     """The fields of a CRL (RFC 5280 5.1)."""
     late = general(b"20500101000000Z")
@@ -1059,6 +1158,7 @@ def anchors_of_certificates():
     yield context(1, tbs_certificate()), []
     yield context(1, tbs_certificate(serial=integer(0))), [error("serial_number_not_positive", "4.1.2.2")]
     yield context(1, tbs_certificate(extensions=(*LEAF, ce(31, sequence())))), [error("crl_distribution_points_empty", "4.2.1.13")]
+    yield context(1, tbs_certificate(inner=ecdsa_with(2, NULL))), [of_standard("error", "ecdsa_signature_parameters_present", "RFC 5758", "3.2")]
 
 
 CERTIFICATE_RULES = (
@@ -1076,6 +1176,7 @@ CERTIFICATE_RULES = (
     policy_rules,
     constraint_rules,
     point_rules,
+    public_key_rules,
 )
 USAGE = "usage: x509_linter [certificate|crl|csr|anchor] [-v|--json] [FILE..]\n       x509_linter --web [-v|--json] MOMENT [FILE..]\n"
 WEB_HELP = """  --web                          tells which rules of the Baseline Requirements of the
@@ -1153,6 +1254,8 @@ def json_runs():
     weak = certificate(extensions=(AKI, SKI, ce(15, DIGITAL_SIGNATURE)))
     usage = told(file, "certificate", "key_usage_not_critical", "warning", "RFC 5280 4.2.1.3", "tbsCertificate.extensions.keyUsage")
     yield "JSON of a warning", ["--json"], weak, usage, 0
+    key = told(file, "certificate", "edwards_key_length", "error", "RFC 8410 4", "tbsCertificate.subjectPublicKeyInfo")
+    yield "JSON of a key", ["--json"], with_key(edwards(112), bytes(31)), key, 1
     for count in (30, 31):
         octets = octet_string(bytes(count))
         seen = octets.hex() if count == 30 else octets[:32].hex() + ".."

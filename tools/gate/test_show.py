@@ -2,8 +2,8 @@
 """Runs x509_show over objects of each kind, with hostile texts among them, in each style, and over what is no object.
 
 The lines of the objects of `shown_objects.py` are those that are stated there by hand, and their JSON has the same. So are those of a CRL that is
-printed in many pieces, of which each front may be written that fits, with status 2. No text of an object may forge
-a line: what is printed as a text has as many lines as the JSON has entries, each of these lines begins with the label of its entry, and no control
+printed in many pieces, of which each front may be written that fits, with status 2. What is printed of SCTs is stated in `shown_timestamps.py`. No text
+of an object may forge a line: what is printed as a text has as many lines as the JSON has entries, each of these lines begins with the label of its entry, and no control
 character stands there but the line feeds at the ends of lines.
 """
 import argparse
@@ -19,12 +19,13 @@ from common.der import UTF8_STRING, element, sequence
 from hostile_payloads import NAME_ROWS, alternative_names, certificate, key_usage, relative_name
 from object_runs import Program, counted, ended
 from shown_objects import FORGED, anchors, crls, long_crl, objects, requests
+from shown_timestamps import runs as runs_over_timestamps
 from test_linter import SIGNATURE
 
 NO_OBJECT = "not a certificate, CRL, CSR or trust anchor in DER, PEM or hex"
 REFUSED = f"x509_show: standard input: {NO_OBJECT}\n"
 UNWRITTEN = "x509_show: standard input: the output can't be written\n"
-USAGE = "usage: x509_show [certificate|crl|csr|anchor] [--json] [FILE..]\n"
+USAGE = "usage: x509_show [certificate|crl|csr|anchor] [--json] [FILE..]\n       x509_show --sct-input ISSUER [FILE]\n"
 # What is refused with each word.
 WORDS = {"certificate": "a certificate", "crl": "a CRL", "csr": "a CSR", "anchor": "a trust anchor"}
 HIDDEN = {*range(0x20), *range(0x7F, 0xA0), 0x61C, 0x200E, 0x200F, *range(0x2028, 0x202F), *range(0x2066, 0x206A)}
@@ -160,6 +161,7 @@ def checked(program):
     """For each run a name, and what is wrong with it, None where nothing is."""
     yield from many_pieces(program)
     yield from with_files(program)
+    yield from runs_over_timestamps(program, USAGE)
     yield "a certificate without room", is_unwritable(program, certificate())
     cases = {name: certificate(extensions=(key_usage(), alternative_names(row[0]))) for name, row in NAME_ROWS.items()}
     cases["a subject with line feeds"] = certificate(subject=sequence(relative_name(3, element(UTF8_STRING, FORGED.encode()))))

@@ -20,12 +20,17 @@ def fields(kind, known, at="0"):
     """Each number and each span of a struct: where it stands, its size, and whether it is a span."""
     if kind == "x509_span" or kind in NUMBERS:
         return [(at, f"sizeof({kind})", int(kind == "x509_span"))]
-    return [row for it in known[kind] for row in fields(it.kind, known, f"{at} + offsetof({kind}, {it.name})")]
+    found = []
+    for it in known[kind]:
+        place = f"{at} + offsetof({kind}, {it.name})"
+        # an array is one number, however long it is
+        found += [(place, f"{it.count} * sizeof({it.kind})", 0)] if it.count else fields(it.kind, known, place)
+    return found
 
 
 def row(call, number, known, numbers):
     """The wrapper of a call and its row."""
-    words, inputs, scalars, flags, output = [], [], [], set(), None
+    words, inputs, scalars, flags, output, lists = [], [], [], set(), None, 0
     rest = list(call.parameters)
     while rest:
         it = rest.pop(0)
@@ -47,6 +52,19 @@ def row(call, number, known, numbers):
             rest.pop(0)
             words += ["a->crls", "a->count"]
             flags.add("HAS_CRLS")
+        elif it.is_const and it.kind == "x509_span" and behind is not None and behind.name == f"{it.name.removesuffix('s')}_count":
+            rest.pop(0)
+            words += [f"a->spans[{lists}]", f"a->span_counts[{lists}]"]
+            lists += 1
+        elif it.is_const and it.kind == "x509_span":
+            words.append("a->leaf")
+        elif it.is_const and it.kind == "x509_bad_link" and behind is not None and behind.name == f"{it.name}_count":
+            rest.pop(0)
+            words += ["a->bad", "a->bad_count"]
+        elif it.is_pointer and not it.is_const and it.kind == "size_t" and behind is not None and behind.name == "room":
+            rest.pop(0)
+            words += ["a->places", "a->room"]
+            flags.add("FINDS")
         elif it.is_pointer and not it.is_const and it.kind == "uint8_t" and behind is not None and behind.name == "room":
             words += ["a->out", "a->room"]
             if rest.pop(0).kind != "size_t" or not rest:

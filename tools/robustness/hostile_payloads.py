@@ -124,6 +124,7 @@ WHOLE = (DATA / "certificate.der").read_bytes()
 ECDSA_SHA256 = sequence(object_identifier(1, 2, 840, 10045, 4, 3, 2))
 EC_P256 = sequence(object_identifier(1, 2, 840, 10045, 2, 1), object_identifier(1, 2, 840, 10045, 3, 1, 7))
 POINT, SIGNATURE = WHOLE.partition(EC_P256 + b"\x03\x42\0")[2][:65], WHOLE.rpartition(ECDSA_SHA256)[2]
+KEY = sequence(EC_P256, bit_string(POINT))
 NAME = sequence(
     relative_name(6, element(PRINTABLE_STRING, b"DE")),
     relative_name(10, element(UTF8_STRING, "Beispiel, Söhne & Co".encode())),
@@ -132,11 +133,15 @@ NAME = sequence(
 VALIDITY = sequence(element(UTC_TIME, b"260102030405Z"), element(GENERALIZED_TIME, b"20550607080910Z"))
 
 
-def certificate(subject=NAME, validity=VALIDITY, extensions=(key_usage(), alternative_names())):
-    """The certificate of the examples, with other fields in place of some (RFC 5280 4.1)."""
+def signed_part(subject=NAME, validity=VALIDITY, extensions=(key_usage(), alternative_names())):
+    """The TBSCertificate of the certificate of the examples, with other fields in place of some (RFC 5280 4.1)."""
     head = [context(0, integer(2)), integer(0x1234567890ABCDEF), ECDSA_SHA256, NAME, validity, subject]
-    part = sequence(*head, sequence(EC_P256, bit_string(POINT)), context(3, sequence(*extensions)))
-    return sequence(part, ECDSA_SHA256, SIGNATURE)
+    return sequence(*head, KEY, *([context(3, sequence(*extensions))] if extensions else []))
+
+
+def certificate(**fields):
+    """That certificate, with other fields in place of some."""
+    return sequence(signed_part(**fields), ECDSA_SHA256, SIGNATURE)
 
 
 def lines(**changed):

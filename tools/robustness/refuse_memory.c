@@ -73,9 +73,9 @@ static void wrong(const char *what, long number)
 
 /* ---- each call */
 
-enum { CALLS = 95 };
+enum { CALLS = 101 };
 
-static uint8_t certificate[65536], list[65536], request[65536], room[65536], signed_list[3 * 65536];
+static uint8_t certificate[65536], list[65536], request[65536], room[65536], signed_list[3 * 65536], searched[65536 + 10];
 static size_t certificate_len, list_len, request_len;
 static x509_certificate own;
 
@@ -88,6 +88,7 @@ static struct {
     x509_signature signature;
     x509_path_fault fault;
     x509_path_answer answer;
+    x509_found_path path;
     x509_span part;
     x509_request_attribute wanted;
     x509_attribute attribute;
@@ -103,6 +104,8 @@ static struct {
     x509_user_notice_view notice;
     x509_anchor anchor;
     x509_timestamp timestamp;
+    x509_log_leaf leaf;
+    x509_log_precertificate submitted;
     x509_extension_entry member;
     x509_general_name general;
     x509_access access;
@@ -116,10 +119,14 @@ static struct {
     size_t at;
     uint32_t matches;
     uint32_t may_sign;
+    uint32_t crl_fault;
 } filled;
 static size_t signed_list_len;
 /* the list, and behind it the name and the key of the certificate */
 static x509_signed_crl given[2];
+/* the certificate, and behind it a key that didn't sign it */
+static x509_span whole;
+static x509_bad_link bad;
 
 /* A value that stands in the source, with its length. */
 #define BYTES(text) (const uint8_t *)(text), sizeof(text) - 1
@@ -143,6 +150,9 @@ static x509_signed_crl given[2];
 #define LEAF "\x6e\x34\x0b\x9c\xff\xb3\x7a\x98\x9c\xa5\x44\xe6\xbb\x78\x0a\x2c\x78\x90\x1d\x3f\xb3\x37\x38\x76\x85\x11\xa3\x06\x17\xaf\xa0\x1d"
 #define OTHER_LEAF "\x96\xa2\x96\xd2\x24\xf2\x85\xc6\x7b\xee\x93\xc3\x0f\x8a\x30\x91\x57\xf0\xda\xa3\x5d\xc5\xb8\x7e\x41\x0b\x78\x63\x0a\x09\xcf\xc7"
 #define ROOT "\xfa\xc5\x42\x03\xe7\xcc\x69\x6c\xf0\xdf\xcb\x42\xc9\x2a\x1d\x9d\xba\xf7\x0a\xd9\xe6\x21\xf4\xbd\x8d\x98\x66\x2f\x00\xe3\xc1\x25"
+
+/* A leaf of a log, of a certificate of one byte (RFC 6962 3.4). */
+#define LOG_LEAF "\x00\x00\x00\x00\x01\x8b\xcf\xe5\x68\x7b\x00\x00\x00\x00\x01\xab\x00\x00"
 
 /* Octets that take memory, as up to 24 take none. */
 #define THIRTY "aaaaaaaaaaaaaaaaaaaaaaaaaaaaaa"
@@ -390,6 +400,19 @@ static x509_status call(int number)
         /* a key without parameters under one of its algorithm with an INTEGER */
         return x509_working_key(BYTES("\x30\x0d\x30\x08\x06\x03\x2a\x03\x04\x02\x01\x07\x03\x01\x00"),
                                 BYTES("\x30\x0a\x30\x05\x06\x03\x2a\x03\x04\x03\x01\x00"), room, sizeof room, &filled.count);
+    case 94:
+        return x509_logged_precertificate_signed_by(BYTES(PRECERT), BYTES(ISSUED), room, sizeof room, &filled.count);
+    case 95:
+        return x509_log_leaf_view(BYTES(LOG_LEAF), &filled.leaf);
+    case 96:
+        return x509_log_precertificate_view(BYTES("\x00\x00\x01\xab\x00\x00\x04\x00\x00\x01\xac"), &filled.submitted);
+    case 97:
+        return x509_tree_head_signed_data(1, 2, BYTES(ROOT), room, sizeof room, &filled.count);
+    case 98:
+        return x509_crl_fault(certificate, certificate_len, signed_list, signed_list_len, given, 2, &IN_FEBRUARY, sizeof IN_FEBRUARY, 1, &filled.crl_fault);
+    case 99:
+        return x509_path_find(searched, certificate_len + 10, &whole, 1, &whole, 1, &whole, &bad, 1, NULL, 0, BYTES(POLICIES), &FIRST_SECOND, sizeof FIRST_SECOND,
+                              8, NULL, 0, &filled.path);
     default:
         /* in the first second of the validity */
         return x509_path_check(certificate, certificate_len, certificate, certificate_len, &certificate_len, 1, 1767323045, &filled.fault);
@@ -593,6 +616,15 @@ static void sign_list(void)
     given[0] = given[1] = (x509_signed_crl){{0, list_len}, {name, own.subject.len}, {key, own.subject_public_key_info.len}, 1};
 }
 
+/* Puts the certificate for the call that finds a path to it under itself, and behind it a key. */
+static void search_for_it(void)
+{
+    memcpy(searched, certificate, certificate_len);
+    memcpy(searched + certificate_len, "\x30\x08\x30\x03\x06\x01\x2a\x03\x01\x00", 10);
+    whole = (x509_span){0, certificate_len};
+    bad = (x509_bad_link){whole, {certificate_len, 10}};
+}
+
 int main(int argc, char **argv)
 {
     if (argc != 4 && argc != 6)
@@ -603,6 +635,7 @@ int main(int argc, char **argv)
     if (x509_certificate_view(certificate, certificate_len, &own) != X509_OK)
         return 2;
     sign_list();
+    search_for_it();
     for (int number = 0; number < CALLS; number++)
         refuse_call(number);
     if (argc == 6) {

@@ -23,10 +23,10 @@
 #include <sys/mman.h>
 #include "x509.h"
 
-enum { MOST_INPUTS = 10, MOST_NUMBERS = 8, MOST_LENS = 4, MOST_FIELDS = 32, MOST_THREADS = 64 };
-enum { HAS_LENS = 1, WRITES = 2, WALKS = 4, WRITES_ASIDE = 8, CARRIES = 16, HAS_CRLS = 32 };
+enum { MOST_INPUTS = 10, MOST_NUMBERS = 8, MOST_LENS = 4, MOST_SPANS = 5, MOST_FIELDS = 32, MOST_THREADS = 64 };
+enum { HAS_LENS = 1, WRITES = 2, WALKS = 4, WRITES_ASIDE = 8, CARRIES = 16, HAS_CRLS = 32, FINDS = 64 };
 
-/* statuses are from -2 to 8 */
+/* statuses are from -2 to 9 */
 #define ANSWERS(status) (1u << ((status) + 2))
 
 typedef struct {
@@ -40,6 +40,10 @@ typedef struct {
     const size_t *lens;
     const x509_signed_crl *crls;
     size_t count;
+    const x509_span *spans[2], *leaf; /* anchors and candidates */
+    size_t span_counts[2], bad_count;
+    const x509_bad_link *bad;
+    size_t *places;
     uint8_t *out;
     size_t room, *written, *at;
     x509_span *issuer;
@@ -176,6 +180,9 @@ static const source SOURCES[] = {
     {NULL, "settings", "settings"},
     {"x509_timestamp_signed_data", "certificate", "x509_logged_part"},
     {"x509_timestamp_signed_data", "issuer", "x509_certificate_check"},
+    {"x509_logged_precertificate_signed_by", "precertificate", "x509_logged_precertificate"},
+    {NULL, "signing", "x509_certificate_check"},
+    {NULL, "root_hash", "hash"},
     {NULL, "timestamp", "x509_timestamp_view"},
     {NULL, "leaf_hash", "hash"},
     {NULL, "root", "hash"},
@@ -184,6 +191,8 @@ static const source SOURCES[] = {
     {NULL, "proof", "hashes"},
     {NULL, "certificate", "x509_certificate_check"},
     {"x509_revocation_status", "in", "x509_crl_check"},
+    {"x509_crl_fault", "in", "x509_crl_check"},
+    {"x509_path_find", "bytes", "x509_certificate_check"},
     {"x509_certificate_extension", "in", "x509_certificate_check"},
     {"x509_certificate_extension", "oid", "found:x509_extensions_next"},
     {"x509_crl_lookup", "in", "x509_crl_check"},
@@ -195,6 +204,10 @@ static const source SOURCES[] = {
     {"x509_name_find", "oid", "found:x509_relative_name_next"},
     {"x509_names_match", "a", "x509_name_text"},
     {"x509_names_match", "b", "x509_name_text"},
+    {"x509_certificate_matches_name", "in", "x509_certificate_check"},
+    {"x509_certificate_matches_name", "name", "x509_server_name_view"},
+    {"x509_certificate_matches_email", "in", "x509_certificate_check"},
+    {"x509_certificate_matches_email", "address", "x509_email_address_view"},
     {NULL, "name", "x509_name_text"},
     {NULL, "names", "x509_general_names_next"},
     {NULL, "issuer", "x509_name_text"},
@@ -269,6 +282,8 @@ typedef struct {
     long accepted[CALL_COUNT], refused[CALL_COUNT];
     size_t lens[MOST_LENS];
     x509_signed_crl crls[MOST_LENS];
+    x509_span spans[2][MOST_SPANS], leaf;
+    x509_bad_link bad[2];
     const call *now;
 } asker;
 
@@ -302,7 +317,7 @@ static x509_status ask(asker *by, const arguments *with)
     const x509_status status = now->ask(with);
     by->asked++;
     by->digest = digest_of(by->digest, &status, sizeof status);
-    if (status < X509_ROOM || status > X509_FAULT || (now->answers & ANSWERS(status)) == 0 || status == X509_MEMORY)
+    if (status < X509_ROOM || status > X509_LIMIT || (now->answers & ANSWERS(status)) == 0 || status == X509_MEMORY)
         wrong(by, "a status that isn't listed, or memory", with, status);
     if (with->found != NULL && status != X509_OK && status != X509_FAULT && memcmp(with->found, before, now->found_size) != 0)
         wrong(by, "what it fills in has changed", with, status);
@@ -397,6 +412,29 @@ static x509_status ask_walk(asker *by, arguments *with)
     return first;
 }
 
+/* A call that finds a path: its anchor and its candidates are some that are there, and the buffer is unchanged where they don't fit or there is none. */
+static x509_status ask_path(asker *by, arguments *with)
+{
+    with->room = (size_t)below(&by->state, 4);
+    with->places = (size_t *)(void *)place(by->out, with->room * sizeof *with->places, 0);
+    memset(with->places, 0xa5, with->room * sizeof *with->places);
+    const x509_status status = ask(by, with);
+    size_t written = 0;
+    if (status == X509_OK || status == X509_FAULT) {
+        x509_found_path found;
+        memcpy(&found, with->found, sizeof found);
+        written = found.count <= with->room ? found.count : 0;
+        if (found.anchor >= with->span_counts[0] || found.count > with->span_counts[1] || found.count > with->number[0] || found.place > found.count ||
+            found.reason > X509_PATH_VERSION || (status == X509_OK && (found.place != 0 || found.reason != 0)) ||
+            (found.reason == X509_PATH_SIGNATURE && with->bad_count == 0))
+            wrong(by, "a path that is none", with, status);
+    }
+    for (size_t at = 0; at < with->room; at++)
+        if (at < written ? with->places[at] >= with->span_counts[1] : with->places[at] != SIZE_MAX / 255 * 0xa5)
+            wrong(by, "a candidate that is none, or a buffer that has changed", with, status);
+    return status;
+}
+
 static x509_status ask_any(asker *by, arguments *with, int is_front)
 {
     /* its alignment divides its size, and that of the pages */
@@ -409,8 +447,16 @@ static x509_status ask_any(asker *by, arguments *with, int is_front)
         with->room = (size_t)below(&by->state, 64);
         with->out = place(by->out, with->room, is_front);
     }
+    if (by->now->flags & FINDS)
+        return ask_path(by, with);
     const x509_status status = ask(by, with);
-    if (status == X509_OK && (by->now->flags & HAS_CRLS)) {
+    if (status == X509_OK && (by->now->flags & HAS_CRLS) && by->now->number_count == 1) {
+        uint32_t fault;
+        memcpy(&fault, with->found, sizeof fault);
+        if (with->number[0] >= with->count || fault > X509_CRL_REPLACED ||
+            (with->crls[with->number[0]].verified == 1 ? fault == X509_CRL_SIGNATURE : fault == X509_CRL_WITHOUT_FAULT || fault > X509_CRL_SIGNATURE))
+            wrong(by, "a fault of a CRL that is none", with, status);
+    } else if (status == X509_OK && (by->now->flags & HAS_CRLS)) {
         x509_revocation_answer told;
         memcpy(&told, with->found, sizeof told);
         const int is_revoked = told.status == X509_REVOKED;
@@ -421,7 +467,7 @@ static x509_status ask_any(asker *by, arguments *with, int is_front)
     if (status == X509_FAULT) {
         x509_path_fault fault;
         memcpy(&fault, with->found, sizeof fault);
-        const uint32_t last = input_of(by->now, "settings") < 0 ? X509_PATH_PATH_LEN : X509_PATH_POLICY_MAPPING;
+        const uint32_t last = input_of(by->now, "settings") < 0 ? X509_PATH_PATH_LEN : X509_PATH_VERSION;
         if (fault.place >= with->count || fault.reason < X509_PATH_DECODE || fault.reason > last || fault.reason == X509_PATH_SIGNATURE)
             wrong(by, "a fault that is none", with, status);
     }
@@ -542,7 +588,8 @@ static void take_moment(asker *by, int path)
     x509_certificate view;
     if (input < 0 || x509_certificate_view(by->copies[path], by->lens[0], &view) != X509_OK)
         return;
-    const x509_path_settings settings = {.moment = view.not_before, .flags = below(&by->state, 32), .purposes = below(&by->state, 64)};
+    const x509_path_settings settings = {.moment = view.not_before, .flags = below(&by->state, 4) != 0 ? 0 : below(&by->state, 32),
+                                              .purposes = below(&by->state, 4) != 0 ? 0 : below(&by->state, 64)};
     copy_in(by, input, (const uint8_t *)&settings, sizeof settings);
 }
 
@@ -583,6 +630,52 @@ static void take_crls(asker *by, arguments *with)
     with->crls = with->count == 0 && below(&by->state, 2) == 0 ? NULL : given;
 }
 
+/* Up to four certificates, one behind the other: the first is mostly the anchor, the others are candidates, as the first may be, and one is the leaf; the moment
+ * is mostly the first second of one. Now and then there are links, or a part lies elsewhere. */
+static void take_candidates(asker *by, arguments *with)
+{
+    const int in = input_of(by->now, "bytes"), settings = input_of(by->now, "settings");
+    const size_t count = 1 + (size_t)below(&by->state, MOST_SPANS - 1);
+    x509_span keys[MOST_SPANS];
+    size_t len = 0;
+    for (size_t at = 0; at < count; at++) {
+        const base *one = one_of(by, "x509_certificate_check");
+        x509_certificate view;
+        if (x509_certificate_view(one->bytes, one->len, &view) != X509_OK)
+            stop("no certificate");
+        memcpy(by->copies[in] + len, one->bytes, one->len);
+        by->spans[0][at] = by->spans[1][at] = (x509_span){len, one->len};
+        keys[at] = (x509_span){len + view.subject_public_key_info.place, view.subject_public_key_info.len};
+        len += one->len;
+        if (at == 0 && below(&by->state, 8) != 0) {
+            const x509_path_settings asked = {.moment = view.not_before, .flags = below(&by->state, 4) != 0 ? 0 : below(&by->state, 32),
+                                              .purposes = below(&by->state, 4) != 0 ? 0 : below(&by->state, 64)};
+            copy_in(by, settings, (const uint8_t *)&asked, sizeof asked);
+        }
+    }
+    by->kept[in] = (octets){by->copies[in], len};
+    if (below(&by->state, 4) != 0) {
+        const int constraints = input_of(by->now, "name_constraints"), policies = input_of(by->now, "policies");
+        by->kept[constraints] = (octets){by->copies[constraints], 0};
+        by->kept[policies] = (octets){by->copies[policies], 0};
+    }
+    with->span_counts[0] = below(&by->state, 8) != 0 ? 1 : below(&by->state, 2) * count;
+    with->span_counts[1] = below(&by->state, 8) != 0 ? count : 0;
+    by->leaf = by->spans[0][below(&by->state, 2) == 0 ? 0 : below(&by->state, count)];
+    with->bad_count = below(&by->state, 4) == 0 ? 1 + (size_t)below(&by->state, 2) : 0;
+    for (size_t at = 0; at < with->bad_count; at++)
+        by->bad[at] = (x509_bad_link){by->spans[0][below(&by->state, count)], keys[below(&by->state, count)]};
+    if (below(&by->state, 16) == 0) {
+        x509_span *part = (x509_span *[]){&by->spans[0][0], &by->spans[1][0], &by->leaf, &by->bad[0].certificate, &by->bad[0].key}[below(&by->state, 5)];
+        *part = (x509_span){below(&by->state, 2) == 0 ? SIZE_MAX - (size_t)below(&by->state, 4) : (size_t)below(&by->state, len + 3),
+                            (size_t)below(&by->state, len + 3)};
+    }
+    with->spans[0] = with->span_counts[0] == 0 && below(&by->state, 2) == 0 ? NULL : by->spans[0];
+    with->spans[1] = with->span_counts[1] == 0 && below(&by->state, 2) == 0 ? NULL : by->spans[1];
+    with->leaf = &by->leaf;
+    with->bad = with->bad_count == 0 && below(&by->state, 2) == 0 ? NULL : by->bad;
+}
+
 /* Good inputs: of x509_reencode a row and the name of its type; of a path one or two certificates. */
 static void take_inputs(asker *by, arguments *with)
 {
@@ -601,6 +694,8 @@ static void take_inputs(asker *by, arguments *with)
     }
     if (now->flags & HAS_CRLS)
         take_crls(by, with);
+    if (now->flags & FINDS)
+        take_candidates(by, with);
     if (now->flags & HAS_LENS) {
         const int path = input_of(now, "path");
         const base *second = one_of(by, "x509_certificate_check");
@@ -824,8 +919,9 @@ static void fill_pools(void)
 
 static void gather(const char *rows, int files, char **names)
 {
-    static const char *const texts[] = {"CN=a", "CN=a+O=b,C=DE", "CN=a,O=b,C=DE", "1.2.3=#0500", "O=\\2c\\ c,DC=d", "2.5.29.15", "1.3.6.1.4.1.11129.2.4.2",
-                                        "1970-01-01T00:00:00Z", "2026-01-02T03:04:05Z"};
+    static const char *const texts[] = {"CN=a", "CN=a+O=b,C=DE", "CN=a,O=b,C=DE", "CN=b,O=c,C=FR", "CN=c,O=d,C=IT", "CN=d,O=e,C=PL", "1.2.3=#0500", "O=\\2c\\ c,DC=d", "2.5.29.15", "1.3.6.1.4.1.11129.2.4.2",
+                                        "1970-01-01T00:00:00Z", "2026-01-02T03:04:05Z", "a.example.", "192.0.2.7", "[2001:db8::192.0.2.7]", "a@b@c.example",
+                                        "\"a\\\" @b\"@c.example"};
     /* an OCTET STRING with a list of one timestamp (RFC 6962 3.3): v1, an ID of zeros, a moment, no extensions, SHA-256 with ECDSA, two octets */
     static const uint8_t timestamps[55] = {0x04, 53, 0, 51, 0, 49, [44] = 1, [49] = 4, [50] = 3, [52] = 2, [53] = 7, [54] = 7};
     /* a certificate with one timestamp, and its precertificate (RFC 6962 3.1) */
@@ -843,11 +939,18 @@ static void gather(const char *rows, int files, char **names)
         0x30, 0x30, 0x30, 0x30, 0x5a, 0x30, 0x00, 0x30, 0x0b, 0x30, 0x05, 0x06, 0x03, 0x2a, 0x03, 0x04, 0x03, 0x02, 0x00, 0x61, 0xa3, 0x17, 0x30, 0x15,
         0x30, 0x13, 0x06, 0x0a, 0x2b, 0x06, 0x01, 0x04, 0x01, 0xd6, 0x79, 0x02, 0x04, 0x03, 0x01, 0x01, 0xff, 0x04, 0x02, 0x05, 0x00, 0x30, 0x05, 0x06,
         0x03, 0x2a, 0x03, 0x04, 0x03, 0x02, 0x00, 0xaa};
+    /* leaves of a log, of a certificate and of a precertificate, and a chain, alone and behind a precertificate (RFC 6962 3.1, 3.4) */
+    static const uint8_t leaf[18] = {[14] = 1, [15] = 0xab}, precertificate_leaf[51] = {[11] = 1, [46] = 1, [47] = 0xcd, [49] = 1, [50] = 0xee};
+    static const uint8_t chain[15] = {0, 0, 1, 0xef, 0, 0, 8, 0, 0, 1, 0xab, 0, 0, 1, 0xcd};
     /* RSAPublicKey (RFC 8017 A.1.1): 51 and 3 */
     static const uint8_t rsa_key[] = {0x30, 6, 2, 1, 0x33, 2, 1, 3};
     keep("", timestamps, sizeof timestamps);
     keep("", issued, sizeof issued);
     keep("", precertificate, sizeof precertificate);
+    keep("", leaf, sizeof leaf);
+    keep("", precertificate_leaf, sizeof precertificate_leaf);
+    keep("", chain, sizeof chain);
+    keep("", chain + 4, sizeof chain - 4);
     keep("", rsa_key, sizeof rsa_key);
     for (size_t at = 0; at < sizeof texts / sizeof *texts; at++)
         keep("", (const uint8_t *)texts[at], strlen(texts[at]));
