@@ -3,10 +3,11 @@ use Rattle.std.proofs.Common.{◌≡◌, ◌⊎◌, inl, inr, ◌↔◌, ℕ, Bo
 use Rattle.std.proofs.lemmas.Bool.{and_parts}
 use Rattle.std.proofs.lemmas.List.{reverse-reverse}
 use Rattle.x509_constraints.specs.Email.{IsMailboxWithin, IsWithinEmail, IsWithinParts, email_key, email_key_at, email_prefix, email_prefix_at, is_local, is_mailbox, is_mailbox_at, mailbox_key, mailbox_of, said}
-use Rattle.x509_constraints.specs.Host.{IsSame, IsWithinHost, is_host, lower}
+use Rattle.x509_constraints.specs.Host.{IsWithinHost}
 use Rattle.x509_constraints.proofs.KeyLaws.{IsUnder, begins_none, empty_answers, has_prefix-one, host_answers, key_if-answers, stops_meet, stops_same}
 use Rattle.x509_constraints.specs.Keys.{stop, symbols, turned}
 use Rattle.x509_constraints.specs.Prefixes.{begins, has_prefix}
+use Rattle.x509_host.specs.Host.{IsSame, is_host, lower}
 
 clash : (b : Bool) → b ≡ true → b ≡ false → ⊥
 clash b t f = let e : true ≡ false = sym t ∙ f in cc

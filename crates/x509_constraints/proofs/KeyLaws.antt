@@ -6,9 +6,10 @@ use Rattle.std.proofs.lemmas.Bool.Decides.{eqb_tells, nat_tests}
 use Rattle.std.proofs.lemmas.Grind.{reverse_onto}
 use Rattle.std.proofs.lemmas.List.{append-nil, map-append, reverse-append, reverse-reverse}
 use Rattle.std.specs.Char.{to_ascii_lowercase}
-use Rattle.x509_constraints.specs.Host.{EndsWith, IsDotted, IsHostOf, IsWithinDns, IsWithinHost, dot, is_dns_name, is_host, lower}
+use Rattle.x509_constraints.specs.Host.{EndsWith, IsDotted, IsHostOf, IsWithinDns, IsWithinHost}
 use Rattle.x509_constraints.specs.Keys.{dns_key, dns_prefixes, host_key, host_prefix, key_if, stop, stopped, symbols, turned}
 use Rattle.x509_constraints.specs.Prefixes.{begins, has_prefix}
+use Rattle.x509_host.specs.Host.{dot, is_host, is_host_or_wildcard, lower}
 
 -- ---- what begins with what
 
@@ -246,7 +247,7 @@ dns_answers_none subtree =
     forth (inr never) = absurd never
 
 pub dns_answers : (name subtree : List ℕ) → (has_prefix (dns_prefixes subtree) (dns_key name) ≡ true) ↔ IsWithinDns name subtree
-dns_answers name subtree = key_if-answers (is_dns_name name) (dns_prefixes subtree) (stopped name) subtree (IsHostOf name subtree ⊎ EndsWith name (dot ∷ subtree))
+dns_answers name subtree = key_if-answers (is_host_or_wildcard name) (dns_prefixes subtree) (stopped name) subtree (IsHostOf name subtree ⊎ EndsWith name (dot ∷ subtree))
     (λ has. dns_answers_both name subtree) (dns_answers_none subtree)
 
 -- one more octet of a host, from its end

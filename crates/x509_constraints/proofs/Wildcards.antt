@@ -1,15 +1,16 @@
 -- Keys of DNS names say which subtrees exclude them, wildcards among them.
-use Rattle.std.proofs.Common.{◌≡◌, ◌==◌, ◌⊎◌, inl, inr, ◌↔◌, ℕ, Bool, true, false, ◌||◌, List, [], ◌∷◌, ◌++◌, Option, None, Some, reverse, refl, sym, ◌∙◌, ap, subst, arith, if◌then◌else◌}
+use Rattle.std.proofs.Common.{◌≡◌, ◌==◌, ◌⊎◌, inl, inr, ◌↔◌, ℕ, Bool, true, false, ◌&&◌, ◌||◌, List, [], ◌∷◌, ◌++◌, Option, None, Some, reverse, refl, sym, ◌∙◌, ap, subst, arith, if◌then◌else◌}
 use Rattle.std.proofs.lemmas.Bool.{and_parts, cases_Bool, or_cases}
 use Rattle.std.proofs.lemmas.Bool.Decides.{eqb_tells, nat_tests}
 use Rattle.std.proofs.lemmas.List.Folds.{list_any-append}
 use Rattle.std.proofs.lemmas.List.{map-append, reverse-reverse}
 use Rattle.std.specs.Char.{to_ascii_lowercase}
-use Rattle.std.specs.List.{list_all}
-use Rattle.x509_constraints.specs.Host.{EndsWith, IsDotted, IsHostOf, IsOneWithinDns, IsWithinDns, are_labels, dot, is_dns_name, is_host, is_label, is_label_octet, lower, star}
+use Rattle.std.specs.List.{list_all, onto_first}
+use Rattle.x509_constraints.specs.Host.{EndsWith, IsDotted, IsHostOf, IsOneWithinDns, IsWithinDns}
 use Rattle.x509_constraints.specs.Keys.{behind_label, dns_key, dns_prefixes, excluded_dns_prefixes, key_if, stop, stopped, symbols, turned, wildcard_keys}
 use Rattle.x509_constraints.specs.Prefixes.{begins, has_prefix}
 use Rattle.x509_constraints.proofs.KeyLaws.{begins_none, dns_answers, stops_meet}
+use Rattle.x509_host.specs.Host.{dot, is_host, is_host_or_wildcard, is_label, is_label_octet, labels_of, lower, star}
 
 clash : (b : Bool) → b ≡ true → b ≡ false → ⊥
 clash b t f = let e : true ≡ false = sym t ∙ f in cc
@@ -106,26 +107,27 @@ label_of_same begun (c ∷ host) (l ∷ label) rest octets some same =
 
 -- ---- hosts with a label in front
 
-label_before : (begun : Bool) (label rest : List ℕ) → list_all is_label_octet label ≡ true → (begun ≡ false → is_label label ≡ true) →
-    are_labels begun (label ++ dot ∷ rest) ≡ are_labels false rest
-label_before true [] rest octets some = refl
-label_before false [] rest octets some = absurd (let e : false ≡ true = some refl in cc)
-label_before begun (l ∷ label) rest octets some =
-    let both = and_parts (is_label_octet l) (list_all is_label_octet label) octets in
-    rw (label_no_dot l both.0, both.0) (label_before true label rest both.1 (λ none. absurd (cc)))
-
 label_octets : (label : List ℕ) → is_label label ≡ true → list_all is_label_octet label ≡ true
 label_octets [] h = absurd (cc)
 label_octets (l ∷ label) h = h
 
-label_name : (label rest : List ℕ) → is_label label ≡ true → is_dns_name (label ++ dot ∷ rest) ≡ is_host rest
+labels_behind : (label rest : List ℕ) → list_all is_label_octet label ≡ true → labels_of (label ++ dot ∷ rest) ≡ label ∷ labels_of rest
+labels_behind [] rest octets = refl
+labels_behind (l ∷ label) rest octets =
+    let both = and_parts (is_label_octet l) (list_all is_label_octet label) octets in
+    rw (label_no_dot l both.0) (ap (onto_first l) (labels_behind label rest both.1))
+
+label_before : (label rest : List ℕ) → is_label label ≡ true → is_host (label ++ dot ∷ rest) ≡ is_host rest
+label_before label rest h = ap (list_all is_label) (labels_behind label rest (label_octets label h)) ∙ ap (λ b. b && is_host rest) h
+
+label_name : (label rest : List ℕ) → is_label label ≡ true → is_host_or_wildcard (label ++ dot ∷ rest) ≡ is_host rest
 label_name [] rest h = absurd (cc)
 label_name (l ∷ []) rest h =
     let both = and_parts (is_label_octet l) (list_all is_label_octet []) h in
-    rw (label_no_star l both.0) (label_before false (l ∷ []) rest h (λ none. h))
+    rw (label_no_star l both.0) (label_before (l ∷ []) rest h)
 label_name (l ∷ m ∷ label) rest h =
     let both = and_parts (is_label_octet l) (list_all is_label_octet (m ∷ label)) h in
-    rw (label_no_star l both.0) (label_before false (l ∷ m ∷ label) rest h (λ none. h))
+    rw (label_no_star l both.0) (label_before (l ∷ m ∷ label) rest h)
 
 -- what ends so behind a label ends so without it
 ends_behind : (label rest end front : List ℕ) → list_all is_label_octet label ≡ true → lower (label ++ dot ∷ rest) ≡ front ++ dot ∷ end →
@@ -144,7 +146,7 @@ wildcard_ends label rest end h (front, is) =
     let own = ends_behind label rest (lower end) front (label_octets label h) is in
     (star ∷ own.0, ap (λ l. star ∷ l) own.1)
 
-wildcard_within : (label rest subtree : List ℕ) → is_label label ≡ true → (is_dns_name (label ++ dot ∷ rest) ≡ true) →
+wildcard_within : (label rest subtree : List ℕ) → is_label label ≡ true → (is_host_or_wildcard (label ++ dot ∷ rest) ≡ true) →
     (IsDotted subtree × EndsWith (label ++ dot ∷ rest) subtree) ⊎ EndsWith (label ++ dot ∷ rest) (dot ∷ subtree) → IsWithinDns (star ∷ dot ∷ rest) subtree
 wildcard_within label rest subtree h is_name (inl ((end, is), ends)) =
     let P : List ℕ → Type 0 = λ s. EndsWith (label ++ dot ∷ rest) s in
@@ -178,7 +180,7 @@ pub record Wildcard (name rest : List ℕ) : Type 0 where
   pub same : lower own ≡ lower rest
   pub host : is_host own ≡ true
 
-wildcard_of : (name rest : List ℕ) → lower name ≡ star ∷ dot ∷ lower rest → is_dns_name name ≡ true → Wildcard name rest
+wildcard_of : (name rest : List ℕ) → lower name ≡ star ∷ dot ∷ lower rest → is_host_or_wildcard name ≡ true → Wildcard name rest
 wildcard_of [] rest same is_name = absurd (cc)
 wildcard_of (c ∷ []) rest same is_name = absurd (cc)
 wildcard_of (c ∷ d ∷ name) rest same is_name =
@@ -186,9 +188,9 @@ wildcard_of (c ∷ d ∷ name) rest same is_name =
     let second : to_ascii_lowercase d ≡ dot = cc in
     let behind : lower name ≡ lower rest = cc in
     let is : c ∷ d ∷ name ≡ star ∷ dot ∷ name = ap (λ x. x ∷ d ∷ name) (lower_star c first) ∙ ap (λ x. star ∷ x ∷ name) (lower_dot d second) in
-    record { own = name; is = is; same = behind; host = ap is_dns_name (sym is) ∙ is_name }
+    record { own = name; is = is; same = behind; host = ap is_host_or_wildcard (sym is) ∙ is_name }
 
-wildcard_with : (name rest : List ℕ) (b : Bool) → is_dns_name name ≡ b → begins (key_if b (stopped name)) (stopped (star ∷ dot ∷ rest)) ≡ true →
+wildcard_with : (name rest : List ℕ) (b : Bool) → is_host_or_wildcard name ≡ b → begins (key_if b (stopped name)) (stopped (star ∷ dot ∷ rest)) ≡ true →
     Wildcard name rest
 unfolding turned
 wildcard_with name rest true is h =
@@ -220,7 +222,7 @@ excluded_dns_answers name subtree = ((λ h. forth (or_cases _ _ (sym parts ∙ h
         IsOneWithinDns name subtree
     by_label None is h = absurd (cc)
     by_label (Some rest) is h = whole rest (first_label false subtree rest is)
-        (wildcard_with name rest (is_dns_name name) refl (sym (or_none (begins (dns_key name) (stopped (star ∷ dot ∷ rest)))) ∙ h))
+        (wildcard_with name rest (is_host_or_wildcard name) refl (sym (or_none (begins (dns_key name) (stopped (star ∷ dot ∷ rest)))) ∙ h))
 
     forth : (has_prefix (dns_prefixes subtree) (dns_key name) ≡ true) ⊎ (has_prefix (wildcard_keys (behind_label false subtree)) (dns_key name) ≡ true) →
         IsOneWithinDns name subtree
@@ -231,22 +233,22 @@ excluded_dns_answers name subtree = ((λ h. forth (or_cases _ _ (sym parts ∙ h
     within h = parts ∙ or_left _ _ ((dns_answers name subtree).1 h)
 
     meant : (label rest host : List ℕ) → is_label label ≡ true → name ≡ star ∷ dot ∷ rest → host ≡ label ++ dot ∷ rest →
-        (subtree ≡ []) ⊎ ((is_dns_name host ≡ true) × (IsHostOf host subtree ⊎ EndsWith host (dot ∷ subtree))) →
+        (subtree ≡ []) ⊎ ((is_host_or_wildcard host ≡ true) × (IsHostOf host subtree ⊎ EndsWith host (dot ∷ subtree))) →
         has_prefix (excluded_dns_prefixes subtree) (dns_key name) ≡ true
     meant label rest host is_one is made (inl empty) = within (inl empty)
     meant label rest host is_one is made (inr (is_name, inl (inl same))) =
         let found = label_of_same false subtree label rest (label_octets label is_one) (λ none. is_one)
         (sym same ∙ (ap lower made ∙ map-append to_ascii_lowercase label (dot ∷ rest))) in
-        let is_rest : is_host rest ≡ true = sym (label_name label rest is_one) ∙ (ap is_dns_name (sym made) ∙ is_name) in
+        let is_rest : is_host rest ≡ true = sym (label_name label rest is_one) ∙ (ap is_host_or_wildcard (sym made) ∙ is_name) in
         parts ∙ or_right _ _ (ap (λ o. has_prefix (wildcard_keys o) (dns_key name)) found.found ∙ same_key name rest found.own is_rest is found.same)
     meant label rest host is_one is made (inr (is_name, inl (inr (dotted, ends)))) =
         let P : List ℕ → Type 0 = λ h. EndsWith h subtree in
         let Q : List ℕ → Type 0 = λ n. IsWithinDns n subtree in
-        within (subst Q (sym is) (wildcard_within label rest subtree is_one (ap is_dns_name (sym made) ∙ is_name) (inl (dotted, subst P made ends))))
+        within (subst Q (sym is) (wildcard_within label rest subtree is_one (ap is_host_or_wildcard (sym made) ∙ is_name) (inl (dotted, subst P made ends))))
     meant label rest host is_one is made (inr (is_name, inr ends)) =
         let P : List ℕ → Type 0 = λ h. EndsWith h (dot ∷ subtree) in
         let Q : List ℕ → Type 0 = λ n. IsWithinDns n subtree in
-        within (subst Q (sym is) (wildcard_within label rest subtree is_one (ap is_dns_name (sym made) ∙ is_name) (inr (subst P made ends))))
+        within (subst Q (sym is) (wildcard_within label rest subtree is_one (ap is_host_or_wildcard (sym made) ∙ is_name) (inr (subst P made ends))))
 
     back : IsOneWithinDns name subtree → has_prefix (excluded_dns_prefixes subtree) (dns_key name) ≡ true
     back (host, inl same, holds) =

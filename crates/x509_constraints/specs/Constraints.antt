@@ -15,8 +15,9 @@ use Rattle.x509_name.specs.declared.attr.type_and_value.AttributeTypeAndValue.{A
 use Rattle.x509_constraints.specs.Address.{IsWithinAddress, is_address_subtree}
 use Rattle.x509_constraints.specs.AddressKeys.{is_address}
 use Rattle.x509_constraints.specs.Email.{IsWithinEmail, is_mailbox, is_mailbox_at, mailbox_of}
-use Rattle.x509_constraints.specs.Host.{IsOneWithinDns, IsWithinDns, dot, is_dns_name, is_host}
+use Rattle.x509_constraints.specs.Host.{IsOneWithinDns, IsWithinDns}
 use Rattle.x509_constraints.specs.Uri.{IsWithinUri, host_of, is_named}
+use Rattle.x509_host.specs.Host.{dot, is_host, is_host_or_wildcard}
 
 -- ---- the subtrees of a set
 
@@ -85,7 +86,7 @@ IsUnclear _ _ = ⊥
 -- A name that can be compared with subtrees; of directory names each attribute is asked with its own place.
 abbrev pub is_comparable : GeneralName → Bool
 is_comparable (DirectoryName _) = true
-is_comparable (DnsName name) = is_dns_name name
+is_comparable (DnsName name) = is_host_or_wildcard name
 is_comparable (Rfc822Name name) = is_mailbox name
 is_comparable (UniformResourceIdentifier name) = is_some (host_of name)
 is_comparable (IpAddress name) = is_address name

@@ -1,8 +1,9 @@
 -- Addresses of e-mail under constraints (RFC 5280 4.2.1.10).
 use Rattle.std.specs.Prelude.{◌≡◌, ◌⊎◌, ℕ, ◌==◌, ◌&&◌, ◌||◌, not, nat_le, Bool, true, false, List, [], ◌∷◌, ◌++◌, Option, None, Some, if◌then◌else◌}
 use Rattle.std.specs.List.{list_all}
-use Rattle.x509_constraints.specs.Host.{IsSame, IsWithinHost, is_host}
+use Rattle.x509_constraints.specs.Host.{IsWithinHost}
 use Rattle.x509_constraints.specs.Keys.{host_prefix, key_if, stop, symbols, turned}
+use Rattle.x509_host.specs.Host.{IsSame, is_host}
 
 -- '@'
 abbrev pub at : ℕ

@@ -1,6 +1,6 @@
 -- Keys by which names are looked up: a name is within a subtree exactly where its key begins with one of the subtree's.
 use Rattle.std.specs.Prelude.{ℕ, ◌+◌, ◌==◌, Bool, true, false, List, [], ◌∷◌, ◌++◌, map, reverse, Option, Some, None, if◌then◌else◌}
-use Rattle.x509_constraints.specs.Host.{dot, is_dns_name, is_host, is_label_octet, lower, star}
+use Rattle.x509_host.specs.Host.{dot, is_host, is_host_or_wildcard, is_label_octet, lower, star}
 
 -- behind the octets of a host
 abbrev pub stop : ℕ
@@ -25,7 +25,7 @@ abbrev pub host_key : List ℕ → List ℕ
 host_key host = key_if (is_host host) (stopped host)
 
 abbrev pub dns_key : List ℕ → List ℕ
-dns_key name = key_if (is_dns_name name) (stopped name)
+dns_key name = key_if (is_host_or_wildcard name) (stopped name)
 
 -- it has no host of its own: it is empty, or has a dot in front
 abbrev pub is_open : List ℕ → Bool

@@ -3,7 +3,8 @@ use Rattle.std.specs.Prelude.{ℕ, ◌==◌, ◌&&◌, ◌||◌, not, Bool, fals
 use Rattle.std.specs.Char.{is_ascii_alphabetic, is_ascii_alphanumeric, is_ascii_digit}
 use Rattle.std.specs.List.{before_first, list_all, list_any, position_or_len}
 use Rattle.x509_constraints.specs.Email.{mailbox_of}
-use Rattle.x509_constraints.specs.Host.{IsWithinHost, dot, is_host}
+use Rattle.x509_constraints.specs.Host.{IsWithinHost}
+use Rattle.x509_host.specs.Host.{dot, is_host}
 
 -- a letter, a digit, '+', '-' or '.'
 abbrev pub is_scheme_octet : ℕ → Bool

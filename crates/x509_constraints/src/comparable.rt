@@ -10,12 +10,12 @@ use crate::address::{is_address, key_of_ip};
 use crate::distinguished::key_of_name;
 use crate::email::{is_mailbox, key_of_email};
 use crate::gathered::form_of;
-use crate::host::is_dns_name;
 use crate::key::Key;
 use crate::turned::{key_of_dns_name, key_of_host};
 use crate::uri::host_of_uri;
 use std::alloc::{AllocError, Global};
 use x509_ext::pkix::name::GeneralName;
+use x509_host::is_host_or_wildcard;
 
 /// Whether the name can be compared with subtrees of its form.
 pub(crate) fn is_comparable(name: &GeneralName) -> bool
@@ -23,7 +23,7 @@ pub(crate) fn is_comparable(name: &GeneralName) -> bool
 {
     match name {
         GeneralName::DirectoryName(_) => true,
-        GeneralName::DnsName(text) => is_dns_name(text.as_str().as_bytes()),
+        GeneralName::DnsName(text) => is_host_or_wildcard(text.as_str().as_bytes()),
         GeneralName::Rfc822Name(text) => is_mailbox(text.as_str().as_bytes()),
         GeneralName::UniformResourceIdentifier(text) => {
             host_of_uri(text.as_str().as_bytes()).is_some()

@@ -6,10 +6,10 @@ ghost use Rattle.x509_constraints.specs.Email as emails;
 ghost use Rattle.x509_constraints.specs.Email.{email_key, email_key_at, email_prefix, mailbox_key, mailbox_of, said};
 ghost use Rattle.x509_constraints.specs.Keys.{stop, symbols};
 
-use crate::host::is_host;
 use crate::key::Key;
 use crate::turned::{STOP, prefix_of_hosts, push_turned, symbol};
 use std::alloc::{AllocError, Global};
+use x509_host::is_host;
 
 /// What stands before the last '@' and what behind it, if there is one.
 pub fn split_mailbox(address: &[u8]) -> Option<(&[u8], &[u8])>

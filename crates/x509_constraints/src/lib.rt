@@ -8,7 +8,6 @@ mod comparable;
 mod distinguished;
 mod email;
 mod gathered;
-mod host;
 mod key;
 mod marks;
 mod merging;
@@ -21,7 +20,6 @@ mod usable;
 
 pub use address::{is_address, is_address_subtree};
 pub use email::{is_mailbox, split_mailbox};
-pub use host::{is_dns_name, is_host};
 pub use key::Key;
 pub use prefixes::Prefixes;
 pub use sets::ConstraintSets;

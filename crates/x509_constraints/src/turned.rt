@@ -1,13 +1,13 @@
 //! Hosts as keys: turned round, so that a host begins with those above it.
 
 ghost use Rattle.std.specs.Prelude.{◌≡◌, ◌+◌, ◌++◌, ◌∷◌, [], false, OnOk, IfOk, MatchOption, None, Some};
-ghost use Rattle.x509_constraints.specs.Host.{dot, star};
 ghost use Rattle.x509_constraints.specs.Keys as keys;
 ghost use Rattle.x509_constraints.specs.Keys.{dns_key, dns_prefixes, excluded_dns_prefixes, host_key, host_prefix, stop, stopped, turned};
+ghost use Rattle.x509_host.specs.Host.{dot, star};
 
-use crate::host::{is_dns_name, is_host, is_label_octet};
 use crate::key::Key;
 use std::alloc::{AllocError, Global};
+use x509_host::{is_host, is_host_or_wildcard, is_label_octet};
 
 /// Behind the octets of a host.
 pub(crate) const STOP: u16 = 0;
@@ -89,7 +89,7 @@ pub(crate) fn key_of_host(alloc: Global, host: &[u8]) -> Result<Key, AllocError>
 pub(crate) fn key_of_dns_name(alloc: Global, name: &[u8]) -> Result<Key, AllocError>
     ensures { IfOk result (λ key. key ≡ dns_key name.now) }
 {
-    if is_dns_name(name) {
+    if is_host_or_wildcard(name) {
         stopped(alloc, name)
     } else {
         Ok(Key::new(alloc))

@@ -3,12 +3,12 @@
 ghost use Rattle.std.specs.Prelude.{◌≡◌, ◌≤◌, ◌==◌, not, MatchOption, None, Some, length};
 ghost use Rattle.std.specs.List.{list_all, list_any, position_or_len};
 ghost use Rattle.x509_constraints.specs.Email.{mailbox_of};
-ghost use Rattle.x509_constraints.specs.Host.{dot};
 ghost use Rattle.x509_constraints.specs.Uri as uris;
 ghost use Rattle.x509_constraints.specs.Uri.{host_of};
+ghost use Rattle.x509_host.specs.Host.{dot};
 
 use crate::email::split_mailbox;
-use crate::host::is_host;
+use x509_host::is_host;
 
 /// Whether the octet may stand in a scheme (RFC 3986 3.1).
 fn is_scheme_octet(octet: u8) -> bool

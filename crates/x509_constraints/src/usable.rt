@@ -8,11 +8,11 @@ ghost use Rattle.x509_constraints.specs.Constraints.{IsUsable};
 use crate::address::is_address_subtree;
 use crate::email::{is_mailbox, split_mailbox};
 use crate::gathered::form_of;
-use crate::host::is_host;
 use crate::uri::is_named;
 use x509_ext::pkix::NameConstraints;
 use x509_ext::pkix::constraints::name::{GeneralSubtree, GeneralSubtrees};
 use x509_ext::pkix::name::GeneralName;
+use x509_host::is_host;
 
 /// What stands behind a dot in front, and else the whole.
 fn without_dot(base: &[u8]) -> &[u8]

@@ -1,12 +1,13 @@
 -- The rules on the alternative names of the subject and the issuer (RFC 5280 4.2.1.6, 4.2.1.7): what breaks each, their order, and how each is told.
 use Rattle.std.specs.Prelude.{Option, ◌&&◌, ◌||◌, ◌==◌, ℕ, Bool, true, false, not, nat_le, List, [], ◌∷◌, length, codes, if◌then◌else◌}
-use Rattle.std.specs.List.{list_all, list_any, slice_get, slice_split}
+use Rattle.std.specs.Char.{is_ascii_alphanumeric}
+use Rattle.std.specs.List.{list_any, slice_get}
 use Rattle.x509_ext.specs.declared.pkix.name.general_name.GeneralName.{GeneralName}
 use Rattle.x509_ext.specs.declared.pkix.name.general_name.GeneralName.TheVariants.{OtherName, Rfc822Name, DnsName, DirectoryName, EdiPartyName, UniformResourceIdentifier, IpAddress, RegisteredId}
-use Rattle.x509_lint.specs.Dns.{is_dns_name, is_label, is_letter_or_digit}
 use Rattle.x509_ext.specs.Identifiers.{id_ce}
 use Rattle.x509_ext.specs.declared.extension.Extension.{Extension}
 use Rattle.x509_ext.specs.declared.pkix.alternative_names.SubjectAltName.{SubjectAltName}
+use Rattle.x509_host.specs.Host.{are_ldh_labels, is_preferred_name}
 use Rattle.x509_lint.specs.Text.{has_email}
 use Rattle.x509_lint.specs.Uri.{has_other_host, is_absolute, is_uri}
 use Rattle.x509_lint.specs.Words.{Certificate, extensions_of, has, is_empty, passes}
@@ -30,7 +31,7 @@ is_empty_name (RegisteredId oid) = false
 
 -- a dNSName that isn't empty, and isn't a DNS name
 abbrev pub is_no_dns_name : GeneralName → Bool
-is_no_dns_name (DnsName text) = not (is_empty text) && not (is_dns_name text)
+is_no_dns_name (DnsName text) = not (is_empty text) && not (is_preferred_name text)
 is_no_dns_name other = false
 
 -- an iPAddress that isn't empty, and has neither 4 nor 16 octets
@@ -46,7 +47,7 @@ atom_marks = 33 ∷ 35 ∷ 36 ∷ 37 ∷ 38 ∷ 39 ∷ 42 ∷ 43 ∷ 45 ∷ 47 �
 
 -- the octets of an atom: letters, digits and these marks
 abbrev pub is_atom_octet : ℕ → Bool
-is_atom_octet octet = is_letter_or_digit octet || list_any (λ mark. mark == octet) atom_marks
+is_atom_octet octet = is_ascii_alphanumeric octet || list_any (λ mark. mark == octet) atom_marks
 
 -- the text begins with the octet
 abbrev pub begins_with : ℕ → List ℕ → Bool
@@ -54,7 +55,7 @@ begins_with octet text = passes (λ first. first == octet) (slice_get text 0)
 
 -- a domain: labels between dots, or an address in brackets, which isn't looked at
 abbrev pub is_domain : List ℕ → Bool
-is_domain text = list_all is_label (slice_split (λ octet. octet == 46) text) || begins_with 91 text
+is_domain text = are_ldh_labels text || begins_with 91 text
 
 -- atoms between dots, the sign @, and a domain; the octets before these end in an atom, or they end in a dot or are none
 abbrev pub is_mailbox_behind : Bool → List ℕ → Bool

@@ -1,5 +1,6 @@
 -- The rules on trust anchors (RFC 5914 2, RFC 5280 4.1.2.4, 4.2): what breaks each, their order, and how each is told.
 use Rattle.std.specs.Prelude.{◌≢◌, ◌↔◌, ◌&&◌, ◌==◌, IsTrue, ℕ, Bool, not, List, [], ◌∷◌, ◌++◌, length, Option, Some, None, bytes_eq, codes, is_some}
+use Rattle.std.specs.Char.{is_ascii_alphanumeric}
 use Rattle.std.specs.List.{list_all, list_any, slice_split}
 use Rattle.std.specs.Str.{chars}
 use Rattle.x509_base.specs.declared.profile.Raw.{Raw}
@@ -13,7 +14,6 @@ use Rattle.x509_ext.specs.LookUp.{IsRepeated, members}
 use Rattle.x509_ext.specs.SubjectKeyIdentifier.{subject_key_identifier}
 use Rattle.x509_ext.specs.declared.extension.Extension.{Extension}
 use Rattle.x509_ext.specs.declared.pkix.policy_information.PolicyInformation.{PolicyInformation}
-use Rattle.x509_lint.specs.Dns.{is_letter_or_digit}
 use Rattle.x509_lint.specs.Constraint.{breaks_name_constraints, constraint_wording}
 use Rattle.x509_lint.specs.List.{extension_text}
 use Rattle.x509_lint.specs.Name.{has_empty_rdn, has_no_country}
@@ -48,7 +48,7 @@ unsigned signed = record { tbs_certificate = signed; signature_algorithm = signe
 
 -- one to eight letters and digits (RFC 5646 2.1)
 abbrev pub is_subtag : List ℕ → Bool
-is_subtag octets = list_all is_letter_or_digit octets && not (is_outside 8 (length octets))
+is_subtag octets = list_all is_ascii_alphanumeric octets && not (is_outside 8 (length octets))
 
 -- such subtags with a hyphen between two of them
 abbrev pub are_subtags : List ℕ → Bool

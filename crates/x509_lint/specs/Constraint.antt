@@ -1,11 +1,11 @@
 -- The rules on name constraints (RFC 5280 4.2.1.10): what breaks each, their order, and how each is told.
 use Rattle.std.specs.Prelude.{◌&&◌, ◌||◌, ◌==◌, ◌/◌, ℕ, Bool, true, false, not, List, [], ◌∷◌, length, drop, codes, is_some, if◌then◌else◌}
-use Rattle.std.specs.List.{list_all, list_any, slice_split}
+use Rattle.std.specs.List.{list_all, list_any}
 use Rattle.x509_ext.specs.declared.pkix.general_subtree.GeneralSubtree.{GeneralSubtree}
 use Rattle.x509_ext.specs.declared.pkix.name_constraints.NameConstraints.{NameConstraints}
 use Rattle.x509_ext.specs.declared.pkix.name.general_name.GeneralName.{GeneralName}
 use Rattle.x509_ext.specs.declared.pkix.name.general_name.GeneralName.TheVariants.{EdiPartyName, UniformResourceIdentifier, IpAddress, RegisteredId}
-use Rattle.x509_lint.specs.Dns.{is_label}
+use Rattle.x509_host.specs.Host.{are_ldh_labels}
 use Rattle.x509_lint.specs.declared.names.BaseFault.{BaseFault}
 use Rattle.x509_lint.specs.declared.names.BaseFault.TheVariants.{OtherForm, NoHost, NoRange, OddMask}
 use Rattle.x509_lint.specs.Words.{Certificate, is_empty, passes}
@@ -37,7 +37,7 @@ behind_dot (first ∷ octets) = if first == 46 then octets else first ∷ octets
 
 -- a URI whose text is neither the DNS name of a host, nor that of a domain behind a dot
 abbrev pub is_no_host : GeneralName → Bool
-is_no_host (UniformResourceIdentifier text) = not (list_all is_label (slice_split (λ octet. octet == 46) (behind_dot text)))
+is_no_host (UniformResourceIdentifier text) = not (are_ldh_labels (behind_dot text))
 is_no_host other = false
 
 -- an address and a mask, of version 4 or of version 6

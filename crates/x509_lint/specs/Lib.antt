@@ -1,7 +1,6 @@
 pub mod Wording
 pub mod Sentence
 pub mod Words
-pub mod Dns
 pub mod Uri
 pub mod BasicConstraints
 pub mod SkipCerts

@@ -1,5 +1,6 @@
 -- The rules on the issuer and the subject of a certificate (RFC 5280 4.1.2.4, 4.1.2.6): what breaks each, their order, and how each is told.
 use Rattle.std.specs.Prelude.{◌&&◌, ◌==◌, Bool, true, false, not, List, [], ◌∷◌, length, bytes_eq, codes}
+use Rattle.std.specs.Char.{is_ascii_alphabetic}
 use Rattle.std.specs.List.{list_all, list_any}
 use Rattle.x509_der.specs.declared.tag.Tag.{Tag}
 use Rattle.x509_der.specs.declared.tag.Tag.TheVariants.{PrintableString}
@@ -7,7 +8,6 @@ use Rattle.x509_der.specs.declared.any.Any.{Any}
 use Rattle.x509_ext.specs.Identifiers.{id_ce}
 use Rattle.x509_name.specs.AttributeTypes.{country_name}
 use Rattle.x509_name.specs.declared.attr.type_and_value.AttributeTypeAndValue.{AttributeTypeAndValue}
-use Rattle.x509_lint.specs.Dns.{is_letter}
 use Rattle.x509_lint.specs.Text.{has_faulty_text}
 use Rattle.x509_lint.specs.declared.texts.TextFault.TheVariants.{OtherType, OldType, OtherCharacter, Size}
 use Rattle.x509_lint.specs.Words.{Certificate, extensions_of, has_critical, is_empty}
@@ -22,7 +22,7 @@ is_printable other = false
 
 -- a PrintableString of two letters (X520countryName, RFC 5280 A.1)
 abbrev pub is_country : Any → Bool
-is_country value = is_printable value.tag && (length value.value == 2) && list_all is_letter value.value
+is_country value = is_printable value.tag && (length value.value == 2) && list_all is_ascii_alphabetic value.value
 
 -- a countryName whose value is none
 abbrev pub is_no_country : AttributeTypeAndValue → Bool

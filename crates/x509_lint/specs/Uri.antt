@@ -1,14 +1,15 @@
 -- URIs (RFC 3986), and those of LDAP (RFC 4516).
 use Rattle.std.specs.Prelude.{◌&&◌, ◌||◌, ◌==◌, ◌-◌, ◌+◌, ℕ, Bool, true, false, not, nat_le, nat_lt, List, [], ◌∷◌, length, take, codes, Option, Some, None, if◌then◌else◌}
+use Rattle.std.specs.Char.{is_ascii_alphabetic, is_ascii_alphanumeric, is_ascii_digit}
 use Rattle.std.specs.List.{after_first, before_first, list_all, list_any, slice_get, slice_split}
-use Rattle.x509_lint.specs.Dns.{is_digit, is_label, is_letter, is_letter_or_digit}
+use Rattle.x509_host.specs.Host.{are_ldh_labels, without_root}
 use Rattle.x509_lint.specs.Words.{is_empty, passes}
 
 -- ---- schemes (RFC 3986 3.1)
 
 -- the octets of a scheme: letters, digits, and + - .
 abbrev pub is_scheme_octet : ℕ → Bool
-is_scheme_octet octet = is_letter_or_digit octet || ((octet == 43) || ((octet == 45) || (octet == 46)))
+is_scheme_octet octet = is_ascii_alphanumeric octet || ((octet == 43) || ((octet == 45) || (octet == 46)))
 
 -- octets of a scheme, a colon, and something behind it
 abbrev pub is_absolute_behind : List ℕ → Bool
@@ -18,20 +19,20 @@ is_absolute_behind (octet ∷ octets) = if octet == 58 then not (is_empty octets
 -- a scheme, which begins with a letter, a colon, and something behind it
 abbrev pub is_absolute : List ℕ → Bool
 is_absolute [] = false
-is_absolute (first ∷ octets) = is_letter first && is_absolute_behind octets
+is_absolute (first ∷ octets) = is_ascii_alphabetic first && is_absolute_behind octets
 
 -- ---- characters (RFC 3986 2)
 
 -- HEXDIG
 abbrev pub is_hex_digit : ℕ → Bool
-is_hex_digit octet = is_digit octet || ((nat_le 65 octet && nat_le octet 70) || (nat_le 97 octet && nat_le octet 102))
+is_hex_digit octet = is_ascii_digit octet || ((nat_le 65 octet && nat_le octet 70) || (nat_le 97 octet && nat_le octet 102))
 
 -- unreserved and sub-delims: letters, digits, and these marks
 abbrev pub plain_marks : List ℕ
 plain_marks = codes "-._~!$&'()*+,;="
 
 abbrev pub is_plain : ℕ → Bool
-is_plain octet = is_letter_or_digit octet || list_any (λ mark. mark == octet) plain_marks
+is_plain octet = is_ascii_alphanumeric octet || list_any (λ mark. mark == octet) plain_marks
 
 abbrev pub begins_with_hex : List ℕ → Bool
 begins_with_hex text = passes is_hex_digit (slice_get text 0) && passes is_hex_digit (slice_get text 1)
@@ -82,10 +83,10 @@ is_between least most octet = nat_le least octet && nat_le octet most
 -- dec-octet: 0 to 255, without zeros in front
 abbrev pub is_decimal_octet : List ℕ → Bool
 is_decimal_octet [] = false
-is_decimal_octet (a ∷ []) = is_digit a
-is_decimal_octet (a ∷ b ∷ []) = is_between 49 57 a && is_digit b
+is_decimal_octet (a ∷ []) = is_ascii_digit a
+is_decimal_octet (a ∷ b ∷ []) = is_between 49 57 a && is_ascii_digit b
 is_decimal_octet (a ∷ b ∷ c ∷ []) =
-    ((a == 49) && (is_digit b && is_digit c)) || (((a == 50) && (is_between 48 52 b && is_digit c)) || ((a == 50) && ((b == 53) && is_between 48 53 c)))
+    ((a == 49) && (is_ascii_digit b && is_ascii_digit c)) || (((a == 50) && (is_between 48 52 b && is_ascii_digit c)) || ((a == 50) && ((b == 53) && is_between 48 53 c)))
 is_decimal_octet (a ∷ b ∷ c ∷ d ∷ octets) = false
 
 -- four of them between dots
@@ -149,14 +150,14 @@ is_literal text = is_ipv6 text || is_future text
 -- nothing, or a colon and digits
 abbrev pub is_port : List ℕ → Bool
 is_port [] = true
-is_port (first ∷ octets) = (first == 58) && list_all is_digit octets
+is_port (first ∷ octets) = (first == 58) && list_all is_ascii_digit octets
 
 -- an IP-literal in brackets, or a reg-name, and perhaps a port
 abbrev pub is_host_and_port : List ℕ → Bool
 is_host_and_port [] = true
 is_host_and_port (first ∷ octets) =
     if first == 91 then contains 93 octets && (is_literal (before 93 octets) && is_port (behind 93 octets))
-    else is_spelled [] (before 58 (first ∷ octets)) && list_all is_digit (behind 58 (first ∷ octets))
+    else is_spelled [] (before 58 (first ∷ octets)) && list_all is_ascii_digit (behind 58 (first ∷ octets))
 
 abbrev pub is_authority : List ℕ → Bool
 is_authority authority =
@@ -175,15 +176,10 @@ is_uri text =
 
 -- ---- hosts (RFC 5280 4.2.1.6)
 
--- without the dot that may stand behind a fully qualified name (RFC 3986 3.2.2)
-abbrev pub without_last_dot : List ℕ → List ℕ
-without_last_dot text = if passes (λ octet. octet == 46) (slice_get text (length text - 1)) then take (length text - 1) text else text
-
--- labels with a dot between two or behind them, and a letter among them, which addresses have not (RFC 1123 2.1)
+-- labels with a dot between two, or behind them (RFC 3986 3.2.2), and a letter among them, which addresses have not (RFC 1123 2.1)
 abbrev pub is_qualified : List ℕ → Bool
 is_qualified text =
-    contains 46 text && (list_all is_label (slice_split (λ octet. octet == 46) (without_last_dot text))
-    && (nat_le (length (without_last_dot text)) 253 && list_any is_letter text))
+    contains 46 text && (are_ldh_labels (without_root text) && (nat_le (length (without_root text)) 253 && list_any is_ascii_alphabetic text))
 
 -- a fully qualified name or an address
 abbrev pub is_full_host : List ℕ → Bool

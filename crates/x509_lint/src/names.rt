@@ -1,18 +1,18 @@
 //! What is asked of names.
 
+ghost use Rattle.std.specs.Char.{is_ascii_alphabetic};
 ghost use Rattle.std.specs.List.{list_all, list_any};
 ghost use Rattle.std.specs.Prelude.{◌≡◌, ◌==◌, ◌/◌, drop, false, length};
 ghost use Rattle.x509_lint.specs.Alternative.{atom_marks, begins_with, is_at_domain, is_at_other_host, is_atom_octet, is_domain, is_empty_name, is_mailbox, is_mailbox_behind, is_no_address, is_no_dns_name, is_no_mailbox, is_no_uri, is_printed, is_quoted_behind, is_relative, is_rfc822_name};
 ghost use Rattle.x509_lint.specs.Constraint.{behind_dot, has_fault, has_odd_mask, is_mask, is_no_host, is_no_range, is_other_form, is_partial, is_range};
-ghost use Rattle.x509_lint.specs.Dns.{is_letter};
 ghost use Rattle.x509_lint.specs.Name.{has_empty_rdn, has_no_country, is_country, is_no_country, is_printable};
 ghost use Rattle.x509_lint.specs.Words.{is_empty, passes};
 
-use crate::dns::{are_labels, is_dns_name, is_letter, is_letter_or_digit};
 use crate::passes;
 use crate::uris::{has_other_host, is_absolute, is_uri};
 use x509_der::{Any, Tag};
 use x509_ext::pkix::name::GeneralName;
+use x509_host::{are_ldh_labels, is_preferred_name};
 use x509_name::attr::AttributeTypeAndValue;
 use x509_name::attr::attribute_types::COUNTRY_NAME;
 use x509_name::name::{Name, RdnSequence, RelativeDistinguishedName};
@@ -27,9 +27,9 @@ fn is_printable(tag: Tag) -> bool
 }
 
 fn are_letters(octets: &[u8]) -> bool
-    ensures { result ≡ list_all is_letter octets.now }
+    ensures { result ≡ list_all is_ascii_alphabetic octets.now }
 {
-    octets.iter().all(|octet| is_letter(*octet))
+    octets.iter().all(|octet| octet.is_ascii_alphabetic())
 }
 
 /// Whether the value is a PrintableString of two letters.
@@ -105,7 +105,7 @@ fn is_no_dns_name(name: &GeneralName) -> bool
     match name {
         GeneralName::DnsName(text) => {
             let text = text.as_str().as_bytes();
-            !text.is_empty() && !is_dns_name(text)
+            !text.is_empty() && !is_preferred_name(text)
         }
         _ => false,
     }
@@ -203,7 +203,7 @@ fn is_no_host(base: &GeneralName) -> bool
 {
     match base {
         GeneralName::UniformResourceIdentifier(text) => {
-            !are_labels(behind_dot(text.as_str().as_bytes()))
+            !are_ldh_labels(behind_dot(text.as_str().as_bytes()))
         }
         _ => false,
     }
@@ -246,7 +246,7 @@ const ATOM_MARKS: [u8; 19] = *b"!#$%&'*+-/=?^_`{|}~";
 fn is_atom_octet(octet: u8) -> bool
     ensures { result ≡ is_atom_octet octet }
 {
-    is_letter_or_digit(octet) || is_atom_mark(octet)
+    octet.is_ascii_alphanumeric() || is_atom_mark(octet)
 }
 
 fn is_atom_mark(octet: u8) -> bool
@@ -264,7 +264,7 @@ fn begins_with(octet: u8, text: &[u8]) -> bool
 fn is_domain(text: &[u8]) -> bool
     ensures { result ≡ is_domain text.now }
 {
-    are_labels(text) || begins_with(b'[', text)
+    are_ldh_labels(text) || begins_with(b'[', text)
 }
 
 /// Whether the text is atoms between dots, the sign @, and a domain.

@@ -1,18 +1,18 @@
 //! URIs (RFC 3986), and those of LDAP (RFC 4516).
 
+ghost use Rattle.std.specs.Char.{is_ascii_alphabetic, is_ascii_digit};
 ghost use Rattle.std.specs.List.{position, list_all, list_any, slice_get, slice_split};
 ghost use Rattle.std.specs.Prelude.{◌≡◌, ◌&&◌, ◌==◌, ◌||◌, ◌≤◌, ◌+◌, [], IfSome, MatchOption, None, Some, codes, length, nat_lt, not};
-ghost use Rattle.x509_lint.specs.Dns.{is_digit, is_letter, is_letter_or_digit};
 ghost use Rattle.x509_lint.specs.Uri as grammar;
 ghost use Rattle.x509_lint.specs.Words.{is_empty, passes};
 
-use crate::dns::{are_labels, is_digit, is_letter, is_letter_or_digit};
 use crate::passes;
+use x509_host::{are_ldh_labels, without_root};
 
 fn is_scheme_octet(octet: u8) -> bool
     ensures { result ≡ grammar.is_scheme_octet octet }
 {
-    is_letter_or_digit(octet) || (octet == b'+' || (octet == b'-' || octet == b'.'))
+    octet.is_ascii_alphanumeric() || (octet == b'+' || (octet == b'-' || octet == b'.'))
 }
 
 /// Whether the octets are ones of a scheme, a colon, and something behind it.
@@ -36,7 +36,7 @@ pub(crate) fn is_absolute(text: &[u8]) -> bool
     ensures { result ≡ grammar.is_absolute text.now }
 {
     match text {
-        [first, rest @ ..] => is_letter(*first) && is_absolute_behind(rest),
+        [first, rest @ ..] => first.is_ascii_alphabetic() && is_absolute_behind(rest),
         [] => false,
     }
 }
@@ -44,7 +44,7 @@ pub(crate) fn is_absolute(text: &[u8]) -> bool
 fn is_hex_digit(octet: u8) -> bool
     ensures { result ≡ grammar.is_hex_digit octet }
 {
-    is_digit(octet) || ((octet >= b'A' && octet <= b'F') || (octet >= b'a' && octet <= b'f'))
+    octet.is_ascii_digit() || ((octet >= b'A' && octet <= b'F') || (octet >= b'a' && octet <= b'f'))
 }
 
 fn are_hex_digits(text: &[u8]) -> bool
@@ -54,9 +54,9 @@ fn are_hex_digits(text: &[u8]) -> bool
 }
 
 fn are_digits(text: &[u8]) -> bool
-    ensures { result ≡ list_all is_digit text.now }
+    ensures { result ≡ list_all is_ascii_digit text.now }
 {
-    text.iter().all(|octet| is_digit(*octet))
+    text.iter().all(|octet| octet.is_ascii_digit())
 }
 
 const PLAIN_MARKS: [u8; 15] = *b"-._~!$&'()*+,;=";
@@ -71,7 +71,7 @@ fn is_plain_mark(octet: u8) -> bool
 fn is_plain(octet: u8) -> bool
     ensures { result ≡ grammar.is_plain octet }
 {
-    is_letter_or_digit(octet) || is_plain_mark(octet)
+    octet.is_ascii_alphanumeric() || is_plain_mark(octet)
 }
 
 fn is_one_of(marks: &[u8], octet: u8) -> bool
@@ -196,11 +196,11 @@ fn is_decimal_octet(text: &[u8]) -> bool
     ensures { result ≡ grammar.is_decimal_octet text.now }
 {
     match text {
-        [a] => is_digit(*a),
-        [a, b] => is_between(b'1', b'9', *a) && is_digit(*b),
+        [a] => a.is_ascii_digit(),
+        [a, b] => is_between(b'1', b'9', *a) && b.is_ascii_digit(),
         [a, b, c] => {
-            (*a == b'1' && (is_digit(*b) && is_digit(*c)))
-                || ((*a == b'2' && (is_between(b'0', b'4', *b) && is_digit(*c)))
+            (*a == b'1' && (b.is_ascii_digit() && c.is_ascii_digit()))
+                || ((*a == b'2' && (is_between(b'0', b'4', *b) && c.is_ascii_digit()))
                     || (*a == b'2' && (*b == b'5' && is_between(b'0', b'5', *c))))
         }
         _ => false,
@@ -376,7 +376,7 @@ fn is_bracketed(octets: &[u8]) -> bool
 
 /// Whether the text is a registered name, and perhaps a port.
 fn is_registered(text: &[u8]) -> bool
-    ensures { result ≡ (grammar.is_spelled [] (grammar.before 58 text.now) && list_all is_digit (grammar.behind 58 text.now)) }
+    ensures { result ≡ (grammar.is_spelled [] (grammar.before 58 text.now) && list_all is_ascii_digit (grammar.behind 58 text.now)) }
 {
     is_spelled(&[], before(b':', text)) && are_digits(behind(b':', text))
 }
@@ -425,27 +425,18 @@ pub(crate) fn is_uri(text: &[u8]) -> bool
             && (is_spelled(b":@/?", query_of(text)) && is_spelled(b":@/?", fragment_of(text))))
 }
 
-fn without_last_dot(text: &[u8]) -> &[u8]
-    ensures { result.now ≡ grammar.without_last_dot text.now }
-{
-    match text {
-        [front @ .., b'.'] => front,
-        _ => text,
-    }
-}
-
 fn has_letter(text: &[u8]) -> bool
-    ensures { result ≡ list_any is_letter text.now }
+    ensures { result ≡ list_any is_ascii_alphabetic text.now }
 {
-    text.iter().any(|octet| is_letter(*octet))
+    text.iter().any(|octet| octet.is_ascii_alphabetic())
 }
 
 /// Whether the text is a fully qualified name.
 fn is_qualified(text: &[u8]) -> bool
     ensures { result ≡ grammar.is_qualified text.now }
 {
-    let name = without_last_dot(text);
-    contains(b'.', text) && (are_labels(name) && (name.len() <= 253 && has_letter(text)))
+    let name = without_root(text);
+    contains(b'.', text) && (are_ldh_labels(name) && (name.len() <= 253 && has_letter(text)))
 }
 
 /// Whether the text is a fully qualified name or an address, and perhaps a port.

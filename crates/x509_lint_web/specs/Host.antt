@@ -1,7 +1,7 @@
 -- DNS names and addresses of TLS servers (TLS BR 1.6.1, 7.1.2.7.12).
 use Rattle.std.specs.Prelude.{◌&&◌, ◌||◌, ◌==◌, ℕ, Bool, false, not, nat_le, nat_lt, length, take, List, [], ◌∷◌, codes, if◌then◌else◌}
-use Rattle.std.specs.List.{list_all, list_any, slice_get, slice_split}
-use Rattle.x509_lint.specs.Dns.{behind_wildcard}
+use Rattle.std.specs.List.{list_all, list_any, slice_get}
+use Rattle.x509_host.specs.Host.{behind_wildcard, labels_of}
 use Rattle.x509_lint.specs.Words.{passes}
 use Rattle.x509_lint_web.specs.Words.{is_same}
 
@@ -20,14 +20,14 @@ is_reserved_label (first ∷ second ∷ third ∷ fourth ∷ octets) =
 is_reserved_label other = false
 
 abbrev pub has_reserved_label : List ℕ → Bool
-has_reserved_label text = list_any is_reserved_label (slice_split (λ octet. octet == 46) text)
+has_reserved_label text = list_any is_reserved_label (labels_of text)
 
 -- a label as IDNA writes one that isn't ASCII (RFC 5890 2.3.2.1)
 abbrev pub is_xn_label : List ℕ → Bool
 is_xn_label label = nat_le 4 (length label) && is_same (take 4 label) (codes "xn--")
 
 abbrev pub has_xn_label : List ℕ → Bool
-has_xn_label text = list_any is_xn_label (slice_split (λ octet. octet == 46) text)
+has_xn_label text = list_any is_xn_label (labels_of text)
 
 abbrev pub is_beyond_ascii : List ℕ → Bool
 is_beyond_ascii text = list_any (λ o. nat_lt 127 o) text

@@ -5,7 +5,8 @@ ghost use Rattle.std.specs.Prelude.{◌≡◌, ◌==◌, ◌≤◌, length};
 ghost use Rattle.x509_lint_web.specs.Host as host;
 ghost use Rattle.x509_lint_web.specs.Words as words;
 
-use x509_lint::{behind_wildcard, passes};
+use x509_host::behind_wildcard;
+use x509_lint::passes;
 
 /// Whether the texts are the same without regard to ASCII case.
 pub(crate) fn is_same(text: &[u8], other: &[u8]) -> bool

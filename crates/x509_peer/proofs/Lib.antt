@@ -1,5 +1,4 @@
 pub mod Anys
-pub mod Wildcards
 pub mod Refused
 pub mod Tagged
 pub mod Walk

@@ -7,8 +7,7 @@ use Rattle.x509_der.specs.Cases.{choice_content, choice_tag}
 use Rattle.x509_ext.specs.GeneralName.{general_name, general_name_lawful}
 use Rattle.x509_ext.specs.declared.pkix.name.general_name.GeneralName.{GeneralName}
 use Rattle.x509_ext.specs.declared.pkix.name.general_name.GeneralName.TheVariants as names
-use Rattle.x509_peer.specs.DnsName.{NamesHost}
-use Rattle.x509_peer.specs.Naming.{IsMailboxOf, IsNameOf}
+use Rattle.x509_peer.specs.Naming.{IsMailboxOf, IsNameOf, NamesHost}
 use Rattle.x509_peer.specs.Peer.{Named, Host, Address, Mailbox}
 
 -- the identifier octet of the names that a peer may have

@@ -1,4 +1,3 @@
-pub mod DnsName
 pub mod Address
 pub mod Peer
 pub mod Texts

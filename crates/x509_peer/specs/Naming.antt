@@ -1,7 +1,6 @@
 -- Whether a certificate names a peer (RFC 9525 6; of e-mail RFC 5280 7.5).
-use Rattle.std.specs.Prelude.{◌≡◌, ℕ, true, List, [], ◌∷◌, Any, Option, Some, None}
+use Rattle.std.specs.Prelude.{◌≡◌, ◌⊎◌, ℕ, true, List, [], ◌∷◌, Any, Option, Some, None}
 use Rattle.x509_constraints.specs.Email.{mailbox_of}
-use Rattle.x509_constraints.specs.Host.{IsSame}
 use Rattle.x509_der.specs.Form.{Spells}
 use Rattle.x509_ext.specs.AlternativeNames.{subject_alt_name}
 use Rattle.x509_ext.specs.Identifiers.{id_ce}
@@ -10,8 +9,12 @@ use Rattle.x509_ext.specs.declared.extension.Extension.{Extension}
 use Rattle.x509_ext.specs.declared.pkix.alternative_names.SubjectAltName.{SubjectAltName}
 use Rattle.x509_ext.specs.declared.pkix.name.general_name.GeneralName.{GeneralName}
 use Rattle.x509_ext.specs.declared.pkix.name.general_name.GeneralName.TheVariants as names
-use Rattle.x509_peer.specs.DnsName.{NamesHost, is_dns_name}
+use Rattle.x509_host.specs.Host.{IsSame, IsWildcardOf, is_dns_name}
 use Rattle.x509_peer.specs.Peer.{Named, Host, Address, Mailbox}
+
+-- the name is that of the host, without regard to ASCII case, or a wildcard that stands for it (RFC 9525 6.3)
+abbrev pub NamesHost : List ℕ → List ℕ → Type 0
+NamesHost name host = ((is_dns_name name ≡ true) × IsSame name host) ⊎ IsWildcardOf name host
 
 -- the local part is the same octet for octet, and the host without regard to ASCII case
 abbrev pub IsMailboxOf : Option (List ℕ × List ℕ) → List ℕ → List ℕ → Type 0

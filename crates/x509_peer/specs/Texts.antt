@@ -1,8 +1,8 @@
 -- Which texts are names of peers.
 use Rattle.std.specs.Prelude.{◌≡◌, ℕ, List, true, Some}
 use Rattle.x509_constraints.specs.Email.{is_mailbox, mailbox_of}
+use Rattle.x509_host.specs.Host.{is_dns_name, without_root}
 use Rattle.x509_peer.specs.Address.{IsAddressText}
-use Rattle.x509_peer.specs.DnsName.{is_dns_name, without_root}
 use Rattle.x509_peer.specs.Peer.{Named, Host, Address, Mailbox}
 
 -- a DNS name, perhaps with the dot of the root at its end

@@ -3,12 +3,10 @@
 ghost use Rattle.std.specs.Cmp.{on_equiv, on_per, partial_equiv_from_equiv};
 ghost use Rattle.std.specs.Cmp.Lexicographic.{nat_list_eq_equiv};
 ghost use Rattle.std.specs.Prelude.{◌≡◌, true, bytes_eq};
-ghost use Rattle.x509_constraints.specs.Host.{lower};
-ghost use Rattle.x509_peer.specs.DnsName.{is_dns_name};
+ghost use Rattle.x509_host.specs.Host.{is_dns_name, lower};
 
 use crate::error::InvalidName;
-use crate::labels::{is_dns_name, without_root};
-use crate::wildcard::is_same;
+use x509_host::{is_dns_name, is_same, without_root};
 
 /// A DNS name (RFC 9525 2): labels with dots between them, in all at most 253 octets. A label is 1 to 63 letters and digits
 /// of ASCII, hyphens and underscores, and neither begins nor ends with a hyphen (RFC 1034 3.5, RFC 1123 2.1). The last one
@@ -23,7 +21,7 @@ pub struct DnsName<'a> {
 
 impl<'a> DnsName<'a> {
     ghost use Rattle.std.specs.Prelude.{◌≡◌, ℕ, List, true, IfOk, IfErr, MatchResult};
-    ghost use Rattle.x509_peer.specs.DnsName.{is_dns_name};
+    ghost use Rattle.x509_host.specs.Host.{is_dns_name};
     ghost use Rattle.x509_peer.specs.Texts.{IsDnsText};
     ghost use Rattle.x509_peer.specs.declared.error.InvalidName.TheVariants as errors;
 

@@ -4,8 +4,8 @@ ghost use Rattle.std.specs.Prelude.{◌≡◌};
 
 use crate::dns::DnsName;
 use crate::error::InvalidName;
-use crate::labels::is_dns_name;
 use x509_constraints::{is_mailbox, split_mailbox};
+use x509_host::is_dns_name;
 
 /// An address of e-mail in ASCII (RFC 5280 4.2.1.6): a local part, `@` and a DNS name. The local part is one or more printed
 /// characters and spaces without quotes and backslashes, or a quoted string (RFC 5321 4.1.2). The last `@` ends it.

@@ -1,7 +1,7 @@
 //! Which names are equal. Each law is a function with an empty body, whose contract is the law.
 
 ghost use Rattle.std.specs.Prelude.{◌≡◌, ◌↔◌, true};
-ghost use Rattle.x509_constraints.specs.Host.{IsSame};
+ghost use Rattle.x509_host.specs.Host.{IsSame};
 ghost use Rattle.x509_peer.specs.Peer.{named_server};
 ghost use Rattle.x509_peer.specs.declared.dns.DnsName.{DnsName};
 ghost use Rattle.x509_peer.specs.declared.email.EmailAddress.{EmailAddress};

@@ -8,12 +8,10 @@ mod address;
 mod dns;
 mod email;
 mod error;
-mod labels;
 pub mod laws;
 mod matching;
 mod peer;
 mod server;
-mod wildcard;
 
 pub use dns::DnsName;
 pub use email::EmailAddress;

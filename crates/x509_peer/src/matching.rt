@@ -1,6 +1,6 @@
 //! Whether a certificate names a peer (RFC 9525 6).
 
-ghost use Rattle.std.specs.Prelude.{◌≡◌, ◌↔◌, Any, IsOk, IsTrue, MatchOption, Ok};
+ghost use Rattle.std.specs.Prelude.{◌≡◌, ◌↔◌, true, Any, IsOk, IsTrue, MatchOption, Ok};
 ghost use Rattle.x509_cert.specs.declared.certificate.certificate.CertificateInner as whole;
 ghost use Rattle.x509_check.specs.ExtensionRefs.{extensions_left};
 ghost use Rattle.x509_check.specs.Lending.{listed};
@@ -12,14 +12,13 @@ ghost use Rattle.x509_ext.specs.GeneralName.{general_name};
 ghost use Rattle.x509_ext.specs.LookUp.{members};
 ghost use Rattle.x509_ext.specs.declared.pkix.alternative_names.SubjectAltName.{SubjectAltName};
 ghost use Rattle.x509_ext.specs.declared.pkix.name.general_name.GeneralName.{GeneralName};
-ghost use Rattle.x509_peer.specs.Naming.{IsMailboxOf, IsNameOf, Names, SpellsNameOf};
+ghost use Rattle.x509_host.specs.Host.{is_dns_name};
+ghost use Rattle.x509_peer.specs.Naming.{IsMailboxOf, IsNameOf, Names, NamesHost, SpellsNameOf};
 ghost use Rattle.x509_peer.specs.Peer.{named, named_email, named_server};
 
 use crate::email::EmailAddress;
-use crate::labels::is_dns_name;
 use crate::peer::Peer;
 use crate::server::ServerName;
-use crate::wildcard::{is_same, names_host};
 use x509_base::Profile;
 use x509_cert::certificate::CertificateInner;
 use x509_check::{CertificateRef, Check, ExtensionRefs};
@@ -27,6 +26,7 @@ use x509_constraints::split_mailbox;
 use x509_der::{AssociatedOid, Grammar, split_element};
 use x509_ext::pkix::SubjectAltName;
 use x509_ext::pkix::name::IpAddress;
+use x509_host::{is_dns_name, is_same, is_wildcard_of};
 
 /// The identifier octet of an rfc822Name (RFC 5280 4.2.1.6).
 const RFC822_NAME: u8 = 0x81;
@@ -36,6 +36,14 @@ const DNS_NAME: u8 = 0x82;
 
 /// The identifier octet of an iPAddress.
 const IP_ADDRESS: u8 = 0x87;
+
+/// Whether the name, as a certificate has it, is that of the host.
+fn names_host(name: &[u8], host: &[u8]) -> bool
+    requires { is_dns_name host.now ≡ true }
+    ensures { IsTrue result ↔ NamesHost name.now host.now }
+{
+    (is_dns_name(name) && is_same(name, host)) || is_wildcard_of(name, host)
+}
 
 /// Whether an rfc822Name is that of the mailbox.
 fn is_mailbox_of(name: &[u8], address: &EmailAddress<'_>) -> bool

@@ -1,17 +1,16 @@
 //! Rules on trust anchors (RFC 5914 2, RFC 5280 4.1.2.4, 4.2).
 
+ghost use Rattle.std.specs.Char.{is_ascii_alphanumeric};
 ghost use Rattle.std.specs.List.{list_all, list_any};
 ghost use Rattle.std.specs.Prelude.{◌≡◌, bytes_eq, is_some, length, not};
 ghost use Rattle.std.specs.Str.{chars};
 ghost use Rattle.x509_lint.specs.Anchor as grammar;
 ghost use Rattle.x509_lint.specs.Constraint.{breaks_name_constraints};
-ghost use Rattle.x509_lint.specs.Dns.{is_letter_or_digit};
 ghost use Rattle.x509_lint.specs.Text.{has_faulty_text, is_outside};
 ghost use Rattle.x509_lint.specs.Wording.{Says};
 ghost use Rattle.x509_lint.specs.Words.{is_empty, passes};
 
 use crate::anchor::values::{AnchorValues, policy_set};
-use crate::dns::is_letter_or_digit;
 use crate::entry::{Entry, rules};
 use crate::extensions::{has, is_empty_sequence};
 use crate::group::{Group, Told};
@@ -122,9 +121,9 @@ fn has_odd_size(title: &Option<Utf8String>) -> bool
 }
 
 fn are_letters_and_digits(octets: &[u8]) -> bool
-    ensures { result ≡ list_all is_letter_or_digit octets.now }
+    ensures { result ≡ list_all is_ascii_alphanumeric octets.now }
 {
-    octets.iter().all(|octet| is_letter_or_digit(*octet))
+    octets.iter().all(|octet| octet.is_ascii_alphanumeric())
 }
 
 fn is_subtag(octets: &[u8]) -> bool

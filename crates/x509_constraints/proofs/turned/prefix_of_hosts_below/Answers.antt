@@ -1,8 +1,8 @@
 use Rattle.std.proofs.Common.{◌∷◌, ◌++◌, [], sym, ap, ◌∙◌}
-use Rattle.x509_constraints.specs.Host.{dot}
 use Rattle.x509_constraints.specs.Keys.{turned}
 use Rattle.x509_constraints.proofs.KeyLaws.{turned-cons}
 use Rattle.x509_constraints.proofs.turned.prefix_of_hosts_below.Goals as goal
+use Rattle.x509_host.specs.Host.{dot}
 
 pub returns : goal.returns
 returns c =

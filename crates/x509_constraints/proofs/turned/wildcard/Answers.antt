@@ -1,8 +1,8 @@
 use Rattle.std.proofs.Common.{◌∷◌, ◌++◌, [], sym, ap, ◌∙◌}
-use Rattle.x509_constraints.specs.Host.{dot, star}
 use Rattle.x509_constraints.specs.Keys.{stop, turned}
 use Rattle.x509_constraints.proofs.KeyLaws.{turned-cons}
 use Rattle.x509_constraints.proofs.turned.wildcard.Goals as goal
+use Rattle.x509_host.specs.Host.{dot, star}
 
 pub returns : goal.returns
 returns c =

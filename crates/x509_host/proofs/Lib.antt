@@ -1,0 +1,2 @@
+pub mod ByOctets
+pub mod Wildcards
