@@ -13,7 +13,7 @@ use Rattle.x509_validation.specs.Steps.{AreLeft, asked_before}
 use Rattle.x509_validation.specs.Validation.{AllowsPurpose, LackPurpose, asked_at, asks_purpose}
 use Rattle.x509_validation.specs.declared.asked.Uses.{Uses}
 
-parted : {X : Type 0} (P : X → Type 0) (xs : List X) (x : X) → All P (xs ++ x ∷ []) → All P xs × P x
+pub parted : {X : Type 0} (P : X → Type 0) (xs : List X) (x : X) → All P (xs ++ x ∷ []) → All P xs × P x
 parted P [] x all = (All-nil P, All-head P x [] all)
 parted P (y ∷ xs) x all =
     let (front, last) = parted P xs x (All-tail P y (xs ++ x ∷ []) all) in

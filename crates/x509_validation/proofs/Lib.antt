@@ -26,3 +26,4 @@ pub mod WorkingKeys
 pub mod Readables
 pub mod EmptyNames
 pub mod KeyAnswers
+pub mod Lasts

@@ -9,3 +9,4 @@ pub mod ValidationFault
 pub mod Steps
 pub mod Equality
 pub mod Details
+pub mod Last

@@ -1,10 +1,15 @@
 //! What holds of all paths that are validated. Each law is a function with an empty body, whose contract is the law.
 
-ghost use Rattle.std.specs.Prelude.{◌≡◌, ◌⊎◌, ◌↔◌, IsOk, List, ℕ, Result, Err, true};
-ghost use Rattle.x509_path.specs.Certificates.{Accepting, accept_all};
-ghost use Rattle.x509_validation.specs.Inputs.{Inputs};
+ghost use Rattle.std.specs.Prelude.{◌≡◌, ◌⊎◌, ◌↔◌, ◌++◌, ◌∷◌, [], IsOk, List, ℕ, Result, Err, true};
+ghost use Rattle.x509_cert.specs.Certificate.{rfc5280_certificate};
+ghost use Rattle.x509_der.specs.Form.{Spells};
+ghost use Rattle.x509_path.specs.Certificates.{Accepting, Certificate, accept_all};
+ghost use Rattle.x509_validation.specs.Inputs.{Inputs, LendsInputs};
+ghost use Rattle.x509_validation.specs.Last.{BreaksAlone, asked_alone};
 ghost use Rattle.x509_validation.specs.Validation as validation;
 ghost use Rattle.x509_validation.specs.Validation.{AreUnusable, PathIsValid};
+ghost use Rattle.x509_validation.specs.declared.settings.PathSettings.{PathSettings};
+ghost use Rattle.x509_validation.specs.declared.trusted.Trusted.{Trusted};
 ghost use Rattle.x509_validation.specs.declared.validated.Validated.{Validated};
 ghost use Rattle.x509_validation.specs.declared.validation_fault.ValidationFault.{ValidationFault};
 ghost use Rattle.x509_validation.specs.declared.validation_fault.ValidationFault.TheVariants as validation_faults;
@@ -42,4 +47,12 @@ pub fn equality_of_faults_and_flags_is_exact()
     ensures faults { (a b : ValidationFault) → (⟦<ValidationFault as PartialEq>⟧.eq a b ≡ true) ↔ (a ≡ b) }
     ensures reasons { (a b : ValidationReason) → (⟦<ValidationReason as PartialEq>⟧.eq a b ≡ true) ↔ (a ≡ b) }
     ensures flags { (a b : AnchorFlags) → (⟦<AnchorFlags as PartialEq>⟧.eq a b ≡ true) ↔ (a ≡ b) }
+{}
+
+/// What is wrong with a certificate as the last one of a path, whatever stands above it ([`last_fault`](crate::last_fault)): no path
+/// that ends in it is valid.
+pub fn no_valid_path_ends_in_a_faulty_certificate()
+    ensures { (accepts : Accepting) (trusted : Trusted) (settings : PathSettings) (inputs : Inputs) (above : List (List ℕ)) (bytes : List ℕ)
+        (c : Certificate) (reason : ValidationReason) → LendsInputs trusted settings inputs → Spells rfc5280_certificate c bytes
+        → BreaksAlone (asked_alone settings) c reason → PathIsValid accepts inputs (above ++ bytes ∷ []) → ⊥ }
 {}

@@ -12,6 +12,7 @@ mod asked;
 mod details;
 mod initial;
 mod keys;
+mod last;
 pub mod laws;
 mod limits;
 mod matching;
@@ -31,6 +32,7 @@ mod validator;
 
 pub use details::{OutOfDate, fault_extension, out_of_date};
 pub use keys::working_key;
+pub use last::last_fault;
 pub use settings::PathSettings;
 pub use trusted::Trusted;
 pub use trusted_buf::TrustedBuf;

@@ -9,11 +9,13 @@ ghost use Rattle.x509_path.specs.Lent.{lent_extensions};
 ghost use Rattle.x509_policy.specs.Levels.{In};
 ghost use Rattle.x509_policy.specs.Values.{has};
 ghost use Rattle.x509_policy.specs.Views.{octets_of};
+ghost use Rattle.x509_validation.specs.Inputs.{purposes_of};
 ghost use Rattle.x509_validation.specs.Steps.{AreLeft, asked_before, left_at};
 ghost use Rattle.x509_validation.specs.Validation.{AllowsPurpose, LackPurpose, any_purpose, asked_at, asks_purpose};
 
 use crate::asked::Asked;
 use crate::processed::owned_payload;
+use crate::settings::PathSettings;
 use std::alloc::{AllocError, Global};
 use x509_check::ExtensionRef;
 use x509_der::ObjectIdentifier;
@@ -123,4 +125,20 @@ pub(crate) fn is_any_asked(left: &Option<Vec<&[u8]>>) -> bool
         → AreLeft purposes asked (option_map (λ v. octets_of v.items) left.now) → result ≡ asks_purpose purposes }
 {
     left.is_some()
+}
+
+/// Whether a purpose is asked for, and a certificate with these extensions allows none of those of which one is.
+pub(crate) fn lacks_purposes(
+    alloc: Global,
+    settings: &PathSettings<'_>,
+    extensions: &[ExtensionRef<'_>],
+) -> Result<bool, AllocError>
+    ensures { IfOk result (λ b. (c : certificates.Certificate) → lent_extensions extensions.now ≡ certificates.extensions_of c
+        → IsTrue b ↔ LackPurpose (purposes_of settings.now) (c ∷ [])) }
+{
+    let Some(purposes) = settings.purposes else {
+        return Ok(false);
+    };
+    let left = Some(allowed(alloc, purposes, extensions)?);
+    Ok(is_none_left(&left))
 }

@@ -137,7 +137,10 @@ fn is_unusable(constraints: &Option<NameConstraints>) -> bool
 }
 
 /// Whether there are extensions, and the version isn't 3.
-fn has_other_version(certificate: &CertificateRef<'_>, extensions: &[ExtensionRef<'_>]) -> bool
+pub(crate) fn has_other_version(
+    certificate: &CertificateRef<'_>,
+    extensions: &[ExtensionRef<'_>],
+) -> bool
     ensures { (c : certificates.Certificate) → Lends certificate.now.bytes.now c → lent_extensions extensions.now ≡ certificates.extensions_of c
         → IsTrue result ↔ HasOtherVersion c }
 {

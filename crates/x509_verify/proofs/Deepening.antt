@@ -8,7 +8,7 @@ use Rattle.std.proofs.lemmas.List.{length-map}
 use Rattle.std.proofs.lemmas.List.Elements.{All-nil}
 use Rattle.x509_path.specs.Certificates.{Accepting}
 use Rattle.x509_validation.specs.declared.trusted.Trusted.{Trusted}
-use Rattle.x509_verify.specs.Found.{Answers, AreDistinct, AreLinked, IsAbove, IsFound, IsLinkedTo, IsRefusal, IsShortest, IsValidUnder, LeadsTo, NoneIsLinked, NoneLeads, Wanted, octets, told_by}
+use Rattle.x509_verify.specs.Found.{Answers, AreDistinct, AreLinked, IsAbove, IsFound, IsLinkedTo, IsRefusal, IsShortest, IsSound, IsValidUnder, LeadsTo, NoneIsLinked, NoneLeads, Wanted, octets, told_by}
 use Rattle.x509_verify.specs.Progress.{AreTriedBelow, IsAnswer, IsOnPath, IsRight, IsTried, MayStand, climbed, up_to}
 use Rattle.x509_verify.specs.declared.found.Found.{Found}
 use Rattle.x509_verify.specs.declared.progress.Progress.{Progress}
@@ -116,7 +116,7 @@ module _ (accepts : Accepting) (wanted : Wanted) where
     nothing (Some r) same some = cc
 
   -- what is told of it
-  pub none_answers : (refusal : Option Refusal) → AreTriedBelow accepts wanted (suc wanted.max_depth) refusal → ((told : Refusal) → refusal ≡ Some told → IsRefusal accepts wanted told)
+  pub none_answers : IsSound wanted → (refusal : Option Refusal) → AreTriedBelow accepts wanted (suc wanted.max_depth) refusal → ((told : Refusal) → refusal ≡ Some told → IsRefusal accepts wanted told)
       → Answers accepts wanted (Err (told_by refusal))
-  none_answers None below right = (none_linked None below refl, none_leads None below)
-  none_answers (Some told) below right = (none_leads (Some told) below, right told refl)
+  none_answers sound None below right = (sound, none_linked None below refl, none_leads None below)
+  none_answers sound (Some told) below right = (sound, none_leads (Some told) below, right told refl)

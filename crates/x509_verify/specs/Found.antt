@@ -8,14 +8,16 @@ use Rattle.x509_match.specs.Matching.{NamesMatch}
 use Rattle.x509_name.specs.Names.{name}
 use Rattle.x509_path.specs.Certificates.{Accepting, Certificate}
 use Rattle.x509_validation.specs.Inputs.{AreUnreadable, Inputs, LendsInputs}
+use Rattle.x509_validation.specs.Last.{TellsAlone, asked_alone}
 use Rattle.x509_validation.specs.Validation.{AreUnusable, Gives, HasFault, PathIsValid}
 use Rattle.x509_validation.specs.declared.settings.PathSettings.{PathSettings}
 use Rattle.x509_validation.specs.declared.trusted.Trusted.{Trusted}
 use Rattle.x509_validation.specs.declared.validation_fault.ValidationFault.{ValidationFault}
 use Rattle.x509_validation.specs.declared.validation_fault.ValidationFault.TheVariants.{Memory as NoMemory, Empty, Initial, At}
+use Rattle.x509_validation.specs.declared.validation_fault.ValidationReason.{ValidationReason}
 use Rattle.x509_verify.specs.Named.{IsDecodable, Name}
 use Rattle.x509_verify.specs.declared.find_error.FindError.{FindError}
-use Rattle.x509_verify.specs.declared.find_error.FindError.TheVariants.{Memory, Limit, Decode, UnknownIssuer, Refused}
+use Rattle.x509_verify.specs.declared.find_error.FindError.TheVariants.{Memory, Limit, Decode, Leaf, UnknownIssuer, Refused}
 use Rattle.x509_verify.specs.declared.found.Found.{Found}
 use Rattle.x509_verify.specs.declared.refusal.Refusal.{Refusal}
 
@@ -97,16 +99,29 @@ pub record IsFound (accepts : Accepting) (wanted : Wanted) (found : Found) : Typ
 abbrev pub IsShortest : Accepting → Wanted → Found → Type 0
 IsShortest accepts wanted found = (trusted : Trusted) (above : List (List ℕ)) → LeadsTo accepts wanted trusted above → length found.path.items ≤ length above + 1
 
+-- the leaf is wrong in whatever path: first of all with that
+pub record HasOwnFault (wanted : Wanted) (reason : ValidationReason) : Type 0 where
+  pub certificate : Certificate
+  pub spells : Spells rfc5280_certificate certificate wanted.leaf
+  pub first : TellsAlone (asked_alone wanted.settings) certificate (Some reason)
+
+-- it is a certificate with which nothing is wrong in whatever path
+pub record IsSound (wanted : Wanted) : Type 0 where
+  pub certificate : Certificate
+  pub spells : Spells rfc5280_certificate certificate wanted.leaf
+  pub none : TellsAlone (asked_alone wanted.settings) certificate None
+
 -- what is told where there is no path: the refusal that was noted, if there is one
 abbrev pub told_by : Option Refusal → FindError
 told_by None = UnknownIssuer
 told_by (Some refusal) = Refused refusal
 
--- What is answered. Where memory or a limit is used up, nothing is said.
+-- What is answered. First of all what is wrong with the leaf alone. Where memory or a limit is used up, nothing is said of paths.
 abbrev pub Answers : Accepting → Wanted → Result Found FindError → Type 0
 Answers accepts wanted (Ok found) = IsFound accepts wanted found × IsShortest accepts wanted found
-Answers accepts wanted (Err Memory) = Unit {0}
-Answers accepts wanted (Err Limit) = Unit {0}
+Answers accepts wanted (Err Memory) = IsDecodable wanted.leaf
+Answers accepts wanted (Err Limit) = IsSound wanted
 Answers accepts wanted (Err Decode) = IsDecodable wanted.leaf → ⊥
-Answers accepts wanted (Err UnknownIssuer) = NoneIsLinked wanted × NoneLeads accepts wanted
-Answers accepts wanted (Err (Refused refusal)) = NoneLeads accepts wanted × IsRefusal accepts wanted refusal
+Answers accepts wanted (Err (Leaf reason)) = HasOwnFault wanted reason × NoneLeads accepts wanted
+Answers accepts wanted (Err UnknownIssuer) = IsSound wanted × NoneIsLinked wanted × NoneLeads accepts wanted
+Answers accepts wanted (Err (Refused refusal)) = IsSound wanted × NoneLeads accepts wanted × IsRefusal accepts wanted refusal

@@ -3,3 +3,4 @@ pub mod Named
 pub mod Given
 pub mod Found
 pub mod Progress
+pub mod Equality

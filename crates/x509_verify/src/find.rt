@@ -15,7 +15,8 @@ use std::alloc::Global;
 use x509_base::Rfc5280;
 use x509_check::CertificateRef;
 use x509_path::SliceVerifier;
-use x509_validation::PathSettings;
+use x509_validation::laws::no_valid_path_ends_in_a_faulty_certificate;
+use x509_validation::{PathSettings, last_fault};
 
 /// Why no path is found, where the search came to its end: the refusal that it noted, if there is one.
 fn none_found<'a>(progress: Progress<'a>) -> FindError<'a>
@@ -32,7 +33,8 @@ fn none_found<'a>(progress: Progress<'a>) -> FindError<'a>
 /// of the anchors, of any candidates in any number and order, none of them twice nor the certificate itself, and at most
 /// [`SearchLimits::max_depth`] of them. Where it is said that there is none, there is none, however the candidates are put.
 ///
-/// The search goes up from the certificate. Above one stand those whose subject matches its issuer (RFC 5280 7.1), which are looked up.
+/// What is wrong with the certificate in whatever path is told first, and nothing is searched then. The search goes up from the
+/// certificate. Above one stand those whose subject matches its issuer (RFC 5280 7.1), which are looked up.
 /// Under each anchor of that name what stands below is validated as a whole, with any bits taken for signatures; and where that
 /// is valid the signatures are verified, from the topmost down. Shorter paths are tried before longer ones, so that no valid path is
 /// shorter than the one that is found.
@@ -42,10 +44,12 @@ fn none_found<'a>(progress: Progress<'a>) -> FindError<'a>
 ///
 /// # Errors
 ///
-/// [`FindError::Decode`] exactly where the bytes are the encoding of no certificate. Else [`FindError::UnknownIssuer`] or
-/// [`FindError::Refused`] only where there is no path, the first only where no candidates lead by their names from an anchor to
-/// the certificate, the second with a fault of one that does. [`FindError::Limit`] where a limit is used up, and
-/// [`FindError::Memory`] when out of memory: these say nothing of whether there is a path.
+/// [`FindError::Decode`] exactly where the bytes are the encoding of no certificate. Else [`FindError::Leaf`] exactly where
+/// something is wrong with the certificate whatever stands above it, with the first such thing, as
+/// [`last_fault`](x509_validation::last_fault) says. Else [`FindError::UnknownIssuer`] or [`FindError::Refused`] only where there is
+/// no path, the first only where no candidates lead by their names from an anchor to the certificate, the second with a fault of
+/// one that does. In place of these [`FindError::Limit`] where a limit is used up, and, wherever the bytes are those of a
+/// certificate, [`FindError::Memory`] when out of memory: these say nothing of whether there is a path.
 pub fn find_path<'a, V: SliceVerifier>(
     alloc: Global,
     anchors: &Anchors<'a>,
@@ -66,6 +70,12 @@ pub fn find_path<'a, V: SliceVerifier>(
     let Ok(certificate) = CertificateRef::<Rfc5280>::from_der(leaf) else {
         return Err(FindError::Decode);
     };
+    no_valid_path_ends_in_a_faulty_certificate();
+    match last_fault(alloc, &certificate, settings) {
+        Ok(Some(reason)) => return Err(FindError::Leaf(reason)),
+        Ok(None) => {}
+        Err(_) => return Err(FindError::Memory),
+    }
     let issuer = match name_key(alloc, certificate.issuer()) {
         Ok(issuer) => issuer,
         Err(_) => return Err(FindError::Memory),

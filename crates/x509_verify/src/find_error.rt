@@ -1,6 +1,7 @@
 //! Why no path is found.
 
 use crate::refusal::Refusal;
+use x509_validation::ValidationReason;
 
 /// Why no path is found.
 #[derive(Debug, Drop)]
@@ -13,6 +14,10 @@ pub enum FindError<'a> {
 
     /// The bytes aren't the encoding of a certificate.
     Decode,
+
+    /// There is no path, since the certificate isn't valid in any, whatever stands above it
+    /// ([`last_fault`](x509_validation::last_fault)): the first thing that is wrong with it.
+    Leaf(ValidationReason),
 
     /// There is no path, since no candidates lead by their names from what is trusted to the certificate: one of the issuers isn't
     /// known.

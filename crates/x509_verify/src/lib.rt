@@ -11,6 +11,7 @@ mod find;
 mod find_error;
 mod found;
 mod keyed;
+pub mod laws;
 mod limits;
 mod pool;
 mod progress;

@@ -1,6 +1,7 @@
 //! How far a search has come.
 
-ghost use Rattle.std.specs.Prelude.{◌≡◌, ◌⊎◌, IsSome, OnOk, Some};
+ghost use Rattle.std.specs.Prelude.{◌≡◌, ◌+◌, ◌⊎◌, IsSome, MatchResult, OnOk, Some};
+ghost use Rattle.x509_verify.specs.declared.progress.Stop.TheVariants as stops;
 ghost use Rattle.x509_verify.specs.declared.refusal.Refusal as refusals;
 
 use crate::refusal::Refusal;
@@ -18,7 +19,12 @@ pub(crate) enum Stop {
 }
 
 impl From<AllocError> for Stop {
-    fn from(_: AllocError) -> Stop {
+    ghost use Rattle.std.specs.Prelude.{◌≡◌};
+    ghost use Rattle.x509_verify.specs.declared.progress.Stop.TheVariants as stops;
+
+    fn from(_: AllocError) -> Stop
+        ensures { result ≡ stops.Memory }
+    {
         Stop::Memory
     }
 }
@@ -55,8 +61,10 @@ pub(crate) struct Progress<'a> {
     pub(crate) refusal: Option<Refusal<'a>>,
 }
 
-/// Takes one from what is left.
-pub(crate) fn take_one(left: &mut u32) -> Result<(), Stop> {
+/// Takes one from what is left, which stops the search exactly where nothing is.
+pub(crate) fn take_one(left: &mut u32) -> Result<(), Stop>
+    ensures { MatchResult result (λ _. left.new + 1 ≡ left.old) (λ e. (e ≡ stops.Limit) × (left.old ≡ 0) × (left.new ≡ 0)) }
+{
     match left.checked_sub(1) {
         Some(fewer) => {
             *left = fewer;

@@ -150,6 +150,9 @@ enum Answer {
         reason: ValidationReason,
     },
 
+    /// That is wrong with the certificate itself.
+    Leaf(ValidationReason),
+
     /// One of the issuers isn't known.
     Unknown,
 
@@ -188,6 +191,7 @@ fn answer_of(error: &FindError<'_>) -> Answer {
             },
             _ => Answer::Other,
         },
+        FindError::Leaf(reason) => Answer::Leaf(*reason),
         FindError::UnknownIssuer => Answer::Unknown,
         FindError::Limit => Answer::Limit,
         FindError::Decode => Answer::Decode,
@@ -267,6 +271,19 @@ fn no_path(rt: HostRuntime) {
         ask(rt.alloc(), &[INTERMEDIATE], &[], &limits),
         Answer::Decode
     );
+}
+
+/// What is wrong with the certificate itself is said before all that is wrong with paths to it.
+#[test]
+fn a_fault_of_the_certificate(rt: HostRuntime) {
+    let limits = SearchLimits::default();
+    let none = SearchLimits {
+        max_paths: 0,
+        ..SearchLimits::default()
+    };
+    let expired = Answer::Leaf(ValidationReason::Moment);
+    assert_eq!(rt; ask(rt.alloc(), &[INTERMEDIATE], EXPIRED, &limits), expired);
+    assert_eq!(rt; ask(rt.alloc(), &[], EXPIRED, &none), expired);
 }
 
 /// Where a limit is used up nothing is said.

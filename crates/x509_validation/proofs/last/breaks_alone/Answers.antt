@@ -1,0 +1,11 @@
+use Rattle.std.proofs.Common.{◌↔◌, subst}
+use Rattle.std.specs.Bool.{IsTrue}
+use Rattle.x509_path.specs.Certificates.{extensions_of}
+use Rattle.x509_validation.specs.Validation.{AreSpelled}
+use Rattle.x509_path.proofs.Lent.{differ}
+use Rattle.x509_validation.proofs.last.breaks_alone.Goals as goal
+
+pub returns-in-Extension : goal.returns-in-Extension
+returns-in-Extension c = λ certificate lends same.
+    let said : IsTrue c.are_spelled.result ↔ AreSpelled (extensions_of certificate) = subst (λ es. IsTrue c.are_spelled.result ↔ AreSpelled es) same c.are_spelled.ensures in
+    rw c.in-Extension.is (differ c.are_spelled.result said)
