@@ -668,6 +668,16 @@ typedef struct {
  * Answers X509_OK, X509_OVERLENGTH, X509_MALFORMED. */
 x509_status x509_certificate_signature(const uint8_t *in, size_t len, x509_signature *signature);
 
+/* The time is before the first second of a certificate's validity, or after the last one (RFC 5280 4.1.2.5). */
+#define X509_NOT_YET_VALID 1
+#define X509_EXPIRED 2
+
+/* Checks a certificate under RFC 5280, and says on which side of its validity a moment is, in seconds since 1970-01-01T00:00:00Z: X509_NOT_YET_VALID, X509_EXPIRED,
+ * or 0 where it is within. Where the validity ends before it begins, X509_NOT_YET_VALID comes first. X509_VALUE where `moment` is after 9999-12-31T23:59:59Z.
+ * No memory is taken, and `*side` is unchanged unless the answer is X509_OK.
+ * Answers X509_OK, X509_OVERLENGTH, X509_MALFORMED, X509_VALUE. */
+x509_status x509_certificate_out_of_date(const uint8_t *in, size_t len, uint64_t moment, uint32_t *side);
+
 /* What is wrong with a certificate of a path. Of several faults of one certificate the one with the lowest number is reported. */
 
 /* The bytes are not the encoding of a certificate. */
@@ -676,8 +686,7 @@ x509_status x509_certificate_signature(const uint8_t *in, size_t len, x509_signa
 #define X509_PATH_ALGORITHM 2
 /* The issuer isn't the subject of the certificate above, byte for byte. */
 #define X509_PATH_ISSUER 3
-/* The time is before the first or after the last second of the validity. x509_certificate_view tells on which side: before `not_before` the certificate isn't
- * valid yet, else it has expired. */
+/* The time is before the first or after the last second of the validity; x509_certificate_out_of_date tells which of the two. */
 #define X509_PATH_MOMENT 4
 /* The signature isn't accepted. x509_path_check never answers it: it is for the caller, who verifies signatures. */
 #define X509_PATH_SIGNATURE 5
@@ -839,7 +848,8 @@ typedef struct {
 
 /* A path that was found, or one that isn't valid where there is none. */
 typedef struct {
-    size_t anchor;   /* the index of the anchor in `anchors`; of several that are trusted for the same, the first */
+    size_t anchor;   /* the index of the anchor in `anchors`; of several that are trusted for the same, the first; `anchor_count` where the fault is one that the
+                      * leaf has in whatever path */
     size_t count;    /* how many candidates stand in the path, whether their indices fit into the buffer or not */
     size_t place;    /* after X509_FAULT the index of the certificate in the path that has a fault, from 0; `count` is that of the leaf; else 0 */
     uint32_t reason; /* after X509_FAULT one of X509_PATH_DECODE to X509_PATH_VERSION, or 0 where the name constraints of the anchor or of the caller can't be
@@ -859,14 +869,16 @@ typedef struct {
  * the first is told. Which policies the path is valid under says x509_path_validate.
  *
  * X509_VALUE where there are no settings, as x509_path_validate says, or `max_depth` is more than 255; X509_FAILED where a part isn't within the bytes, or an
- * anchor's subject is empty or it has one of the extensions that are followed more than once; X509_OVERLENGTH or X509_MALFORMED where decoding an anchor, one of
- * its extensions, the leaf, a certificate or a key of `bad`, the name constraints or the policies answers that; where several of these are bad, any of their
- * answers may come. Else X509_OK where there is such a path. Else X509_ABSENT where no candidates lead by their names from an anchor to the leaf: an issuer
- * isn't known. Else X509_FAULT: there is no such path, and what is told is one that leads there by its names, with a fault that it has; of those it is one that
- * has the fewest certificates left from the fault on. Its fault is the first at the lowest place that has one other than a signature's, or X509_PATH_SIGNATURE
- * of a certificate that is listed in `bad` with the key above it. In the place of the last three answers X509_LIMIT, where more than 200,000 candidates would be
- * put above others or more than 1,000 paths validated: whether there is a path isn't known. `*found` and path[0..room) are unchanged unless the answer is X509_OK
- * or X509_FAULT.
+ * anchor's subject is empty or it has one of the extensions that are followed more than once; X509_OVERLENGTH or X509_MALFORMED where decoding an anchor, one
+ * of its extensions, the leaf, a certificate or a key of `bad`, the name constraints or the policies answers that; where several of these are bad, any of their
+ * answers may come. Else X509_FAULT, before any search, where the leaf has a fault in whatever path it is the last: X509_PATH_ALGORITHM, X509_PATH_MOMENT,
+ * X509_PATH_VERSION, X509_PATH_REPEATED, X509_PATH_EXTENSION, X509_PATH_CRITICAL, X509_PATH_USAGE or X509_PATH_PURPOSE; the first of these, in this order, is
+ * told, `anchor` is `anchor_count`, `count` and `place` are 0, and path[0..room) is unchanged. Else X509_OK where there is such a path. Else X509_ABSENT where
+ * no candidates lead by their names from an anchor to the leaf: an issuer isn't known. Else X509_FAULT: there is no such path, and what is told is one that
+ * leads there by its names, with a fault that it has; of those it is one that has the fewest certificates left from the fault on. Its fault is the first at the
+ * lowest place that has one other than a signature's, or X509_PATH_SIGNATURE of a certificate that is listed in `bad` with the key above it. In the place of
+ * the last three answers X509_LIMIT, where more than 200,000 candidates would be put above others or more than 1,000 paths validated: whether there is a path
+ * isn't known. `*found` and path[0..room) are unchanged unless the answer is X509_OK or X509_FAULT.
  * Answers X509_OK, X509_MEMORY, X509_OVERLENGTH, X509_MALFORMED, X509_FAILED, X509_VALUE, X509_ABSENT, X509_FAULT, X509_LIMIT. */
 x509_status x509_path_find(const uint8_t *bytes, size_t len, const x509_span *anchors, size_t anchor_count, const x509_span *candidates, size_t candidate_count,
                            const x509_span *leaf, const x509_bad_link *bad, size_t bad_count, const uint8_t *name_constraints, size_t name_constraints_len,

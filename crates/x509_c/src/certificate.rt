@@ -1,6 +1,7 @@
 //! What a certificate says.
 
 ghost use Rattle.std.specs.Prelude.{◌≡◌};
+ghost use Rattle.x509_c_calls.specs.Dates.{TellsSide};
 ghost use Rattle.x509_c_calls.specs.Extensions.{LooksUpExtension};
 ghost use Rattle.x509_c_calls.specs.Signature.{IsSignature};
 ghost use Rattle.x509_c_calls.specs.View.{IsView};
@@ -11,8 +12,8 @@ ghost use Rattle.x509_der.specs.declared.error.ErrorKind.TheVariants.{Memory};
 
 use x509_base::Rfc5280;
 use x509_c_calls::{
-    CertificateView, ExtensionView, SignatureView, certificate_extension, certificate_signature,
-    certificate_view,
+    CertificateView, ExtensionView, SignatureView, certificate_extension, certificate_out_of_date,
+    certificate_signature, certificate_view,
 };
 use x509_cert::certificate::CertificateInner;
 use x509_der::Grammar;
@@ -48,4 +49,14 @@ pub extern "C" fn x509_certificate_signature(input: &[u8], signature: &mut Signa
         (λ certificate. IsSignature input.now certificate signature.new) (signature.new ≡ signature.old) status × (status ≡ Refused Memory → ⊥)) result }
 {
     certificate_signature(input, signature).code()
+}
+
+/// Checks a certificate under the rules of RFC 5280, and fills in on which side of its validity a moment is, in seconds since
+/// 1970-01-01T00:00:00Z. It takes no memory.
+#[unsafe(no_mangle)]
+pub extern "C" fn x509_certificate_out_of_date(input: &[u8], moment: u64, side: &mut u32) -> i32
+    ensures { Tells (λ status. TellsSide ⟦<CertificateInner<Rfc5280> as Grammar>⟧.refuses input.now moment side.old side.new status
+        × (status ≡ Refused Memory → ⊥)) result }
+{
+    certificate_out_of_date(input, moment, side).code()
 }

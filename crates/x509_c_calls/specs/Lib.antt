@@ -74,3 +74,4 @@ pub mod Documents
 pub mod Findings
 pub mod FindingLines
 pub mod Peers
+pub mod Dates

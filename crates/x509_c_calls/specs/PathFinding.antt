@@ -1,7 +1,7 @@
 -- What a call leaves that finds a path over candidates (RFC 5280 6.1), where it is listed which signatures don't hold.
 use Rattle.std.specs.Cmp.Lexicographic.{pointwise}
 use Rattle.std.specs.List.{All, AllZip, list_any, position_or_len}
-use Rattle.std.specs.Prelude.{◌≡◌, ◌<◌, ◌⊎◌, ◌↔◌, ◌&&◌, ◌++◌, ◌∷◌, [], ℕ, Bool, true, false, not, nat_eq, List, map, Contains, Option, Some, None, Ok, Err}
+use Rattle.std.specs.Prelude.{◌≡◌, ◌<◌, ◌⊎◌, ◌↔◌, ◌&&◌, ◌++◌, ◌∷◌, [], ℕ, Bool, true, false, not, nat_eq, List, length, map, Contains, Option, Some, None, Ok, Err}
 use Rattle.x509_base.specs.AlgorithmIdentifier.{algorithm_identifier}
 use Rattle.x509_base.specs.SubjectPublicKeyInfo.{subject_public_key_info}
 use Rattle.x509_base.specs.declared.subject_public_key_info.SubjectPublicKeyInfo.{SubjectPublicKeyInfo}
@@ -35,9 +35,10 @@ use Rattle.x509_validation.specs.declared.settings.PathSettings.{PathSettings}
 use Rattle.x509_validation.specs.declared.trusted.Trusted.{Trusted}
 use Rattle.x509_validation.specs.declared.validation_fault.ValidationFault.{ValidationFault}
 use Rattle.x509_validation.specs.declared.validation_fault.ValidationFault.TheVariants.{At}
+use Rattle.x509_validation.specs.declared.validation_fault.ValidationReason.{ValidationReason}
 use Rattle.x509_verify.specs.Found.{Answers, Wanted, octets}
 use Rattle.x509_verify.specs.Named.{IsDecodable}
-use Rattle.x509_verify.specs.declared.find_error.FindError.TheVariants.{UnknownIssuer, Refused}
+use Rattle.x509_verify.specs.declared.find_error.FindError.TheVariants.{Leaf, Limit, UnknownIssuer, Refused}
 use Rattle.x509_verify.specs.declared.found.Found.{Found}
 use Rattle.x509_verify.specs.declared.refusal.Refusal.{Refusal}
 
@@ -168,17 +169,26 @@ pub record IsPathTold (given : List Trusted) (candidates : List (List ℕ)) (lea
   pub anchor : is.found.anchor ≡ first_trust given under
   pub places : AreTold (map (first_place candidates) above) was.path is.path is.found.count
 
--- What is left of a search. Done: a path is found, and told. Faulty: there is none, and one that isn't valid is told with its fault. Absent: there isn't even
--- one by the names. Limit: more would be tried than is allowed, and nothing is said. Else memory was refused.
+-- What is wrong with the leaf in whatever path is told: under none of the anchors, and the buffer is left as it was.
+pub record IsLeafTold (given : List Trusted) (told : ValidationReason) (was is : LeftPath) : Type 0 where
+  pub path : is.path ≡ was.path
+  pub anchor : is.found.anchor ≡ length given
+  pub count : is.found.count ≡ 0
+  pub place : is.found.place ≡ 0
+  pub reason : is.found.reason ≡ validation_code told
+
+-- What is left of a search. Done: a path is found, and told. Faulty: there is none, and what is wrong with the leaf is told, or else a path that isn't valid,
+-- with its fault. Absent: there isn't even one by the names. Limit: more would be tried than is allowed, and nothing is said. Else memory was refused.
 unfoldable pub TellsPath : List Trusted → List (List ℕ) → Accepting → Wanted → LeftPath → LeftPath → Status → Type 0
 TellsPath given candidates accepts wanted was is statuses.Done =
     (found : Found) × Answers accepts wanted (Ok found) × IsPathTold given candidates wanted.leaf found.trusted (octets found.path.items) was is
     × (is.found.place ≡ 0) × (is.found.reason ≡ 0)
 TellsPath given candidates accepts wanted was is statuses.Faulty =
-    (refusal : Refusal) × Answers accepts wanted (Err (Refused refusal)) × IsPathTold given candidates wanted.leaf refusal.trusted (octets refusal.path.items) was is
-    × (is.found.place ≡ place_of refusal.fault) × (is.found.reason ≡ reason_of refusal.fault)
+    ((reason : ValidationReason) × Answers accepts wanted (Err (Leaf reason)) × IsLeafTold given reason was is)
+    ⊎ ((refusal : Refusal) × Answers accepts wanted (Err (Refused refusal)) × IsPathTold given candidates wanted.leaf refusal.trusted (octets refusal.path.items) was is
+    × (is.found.place ≡ place_of refusal.fault) × (is.found.reason ≡ reason_of refusal.fault))
 TellsPath given candidates accepts wanted was is statuses.Absent = Answers accepts wanted (Err UnknownIssuer) × (is ≡ was)
-TellsPath given candidates accepts wanted was is statuses.Limit = is ≡ was
+TellsPath given candidates accepts wanted was is statuses.Limit = Answers accepts wanted (Err Limit) × (is ≡ was)
 TellsPath given candidates accepts wanted was is (statuses.Refused e) = (e ≡ kinds.Memory) × (is ≡ was)
 TellsPath given candidates accepts wanted was is statuses.NoRoom = ⊥
 TellsPath given candidates accepts wanted was is statuses.Repeated = ⊥

@@ -1,10 +1,12 @@
 //! What a certificate says, and where its parts stand in the bytes.
 
+mod dates;
 mod extension;
 mod signature;
 mod view;
 mod whole;
 
+pub use dates::certificate_out_of_date;
 pub use extension::{ExtensionView, certificate_extension};
 pub use signature::{SignatureView, certificate_signature};
 pub(crate) use view::view_of;

@@ -41,6 +41,7 @@ pub use certificate::CertificateView;
 pub use certificate::ExtensionView;
 pub use certificate::SignatureView;
 pub use certificate::certificate_extension;
+pub use certificate::certificate_out_of_date;
 pub use certificate::certificate_signature;
 pub use certificate::certificate_view;
 pub use certificate::is_written;

@@ -229,6 +229,15 @@ fn tell<'a>(
                 Err(_) => Status::Refused(ErrorKind::Memory),
             }
         }
+        Err(FindError::Leaf(reason)) => {
+            *found = FoundPath {
+                anchor: sought.trusted.len(),
+                count: 0,
+                place: 0,
+                reason: number_of(reason),
+            };
+            Status::Faulty
+        }
         Err(FindError::UnknownIssuer) => Status::Absent,
         Err(FindError::Limit) => Status::Limit,
         Err(FindError::Decode) => Status::Refused(ErrorKind::Malformed),
@@ -276,10 +285,11 @@ fn find_under<'a>(
 /// the two are listed as a link that doesn't hold. So a caller verifies the signatures of the path that is found, lists a link that
 /// doesn't hold, and asks again; each round lists a further link, so that it ends.
 ///
-/// [`Status::Done`] where there is such a path, and [`Status::Faulty`] where there is none: then the path that is told is one that leads
-/// by its names from an anchor to the certificate, with a fault that it has; of those it is the one of which the fewest certificates are
-/// left, from the fault on. In `path` stand the indices of its candidates, topmost first, where they fit; of those with the same bytes
-/// the first is told.
+/// [`Status::Done`] where there is such a path, and [`Status::Faulty`] where there is none. What is wrong with the certificate whatever
+/// stands above it is told first ([`last_fault`](x509_validation::last_fault)), before any search: then `anchor` is how many anchors there
+/// are, and no candidate is told. Else the path that is told is one that leads by its names from an anchor to the certificate, with a
+/// fault that it has; of those it is the one of which the fewest certificates are left, from the fault on. In `path` stand the indices of
+/// its candidates, topmost first, where they fit; of those with the same bytes the first is told.
 ///
 /// # Errors
 ///

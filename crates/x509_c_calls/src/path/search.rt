@@ -48,7 +48,8 @@ pub struct PathSearch<'a> {
 #[derive(Clone, Copy, Debug, PartialEq, Eq)]
 #[repr(C)]
 pub struct FoundPath {
-    /// The number of the first anchor that gives what the path is under, from 0.
+    /// The number of the first anchor that gives what the path is under, from 0; how many there are where what is wrong with the
+    /// certificate alone is told.
     pub anchor: usize,
 
     /// How many candidates stand in the path.

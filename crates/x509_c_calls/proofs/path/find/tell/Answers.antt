@@ -1,4 +1,4 @@
-use Rattle.std.proofs.Common.{◌∙◌, Ok, Err, subst}
+use Rattle.std.proofs.Common.{◌∙◌, Ok, Err, inr, subst}
 use Rattle.x509_c_calls.proofs.FoundPlaces.{told_above}
 use Rattle.x509_c_calls.proofs.path.find.tell.Goals as goal
 use Rattle.x509_c_calls.specs.PathFinding.{TellsPath, first_place, unlisted}
@@ -38,5 +38,5 @@ returns-in-Ok-tell_path-2 c =
     let answers : Answers (unlisted sought.bad.items) wanted (Err (Refused it)) =
     subst (λ bad. Answers (unlisted bad) wanted (Err (Refused it))) c.as_slice.ensures.value (rw c.in-Err-Refused.field-0-is at c.in-Err-Refused.ensures) in
     let told = c.in-Ok-tell_path-2.ensures in
-    let places = told_above (first_place (octets sought.candidates.items)) it.path.items c.as_slice-in-Err-Refused.result.now answers.1.above sought.leaf.now _ _ _ c.as_slice-in-Err-Refused.ensures.value answers.1.path told.0 in
-    (it, answers, record { above = answers.1.above; whole = answers.1.path; anchor = told.1; places = places }, told.2 ∙ c.numbers_of-fault.ensures.place, told.3 ∙ c.numbers_of-fault.ensures.reason)
+    let places = told_above (first_place (octets sought.candidates.items)) it.path.items c.as_slice-in-Err-Refused.result.now answers.2.above sought.leaf.now _ _ _ c.as_slice-in-Err-Refused.ensures.value answers.2.path told.0 in
+    inr (it, answers, record { above = answers.2.above; whole = answers.2.path; anchor = told.1; places = places }, told.2 ∙ c.numbers_of-fault.ensures.place, told.3 ∙ c.numbers_of-fault.ensures.reason)
