@@ -143,6 +143,20 @@ static void certificates(void)
     WANT(x509_certificate_extension(certificate, certificate_len, key_usage, 3, &found) == X509_REPEATED && found.critical == 7);
 }
 
+/* The certificate is valid from 2026-01-02T03:04:05Z to 2055-06-07T08:09:10Z. */
+static void dates(void)
+{
+    uint32_t side = 7;
+    WANT(x509_certificate_out_of_date(nothing, 0, 1767323045, &side) == X509_MALFORMED && side == 7);
+    WANT(x509_certificate_out_of_date(list, list_len, 1767323045, &side) == X509_MALFORMED && side == 7);
+    WANT(x509_certificate_out_of_date(certificate, certificate_len, 253402300800, &side) == X509_VALUE && side == 7);
+    WANT(x509_certificate_out_of_date(certificate, certificate_len, 1767323044, &side) == X509_OK && side == X509_NOT_YET_VALID);
+    WANT(x509_certificate_out_of_date(certificate, certificate_len, 1767323045, &side) == X509_OK && side == 0);
+    WANT(x509_certificate_out_of_date(certificate, certificate_len, 2695968551, &side) == X509_OK && side == X509_EXPIRED);
+    WANT(x509_certificate_out_of_date(certificate, certificate_len, 2695968550, &side) == X509_OK && side == 0);
+    WANT(x509_certificate_out_of_date(certificate, certificate_len, 253402300799, &side) == X509_OK && side == X509_EXPIRED);
+}
+
 /* What is to be verified of the certificate, which is signed by ECDSA with SHA-256 (RFC 5758 3.2). */
 static void signatures(void)
 {
@@ -494,7 +508,7 @@ static void long_paths(void)
 #define BY_HAND(number, issuer, subject, key) "\x30\x76\x30\x6a\xa0\x03\x02\x01\x02\x02\x01" number "\x30\x03\x06\x01\x2a" issuer \
     "\x30\x20\x17\x0d" "700101000000Z" "\x18\x0f" "99991231235959Z" subject "\x30\x08\x30\x03\x06\x01" key "\x03\x01\x00" \
     "\xa3\x13\x30\x11\x30\x0f\x06\x03\x55\x1d\x13\x01\x01\xff\x04\x05\x30\x03\x01\x01\xff" "\x30\x03\x06\x01\x2a\x03\x03\x00\xab\xcd"
-enum { BY_HAND_LEN = 0x78, KEY_PLACE = 79, KEY_LEN = 10 };
+enum { BY_HAND_LEN = 0x78, NOT_BEFORE_PLACE = 35, KEY_PLACE = 79, KEY_LEN = 10 };
 
 static const x509_found_path UNFOUND_PATH = {7, 7, 7, 7};
 
@@ -542,6 +556,21 @@ static void found_paths(void)
     WANT(is_path(found, 0, 1, 0, X509_PATH_POLICY));
     WANT(x509_path_find(bytes, len, &root, 1, authorities, 4, &leaf, NULL, 0, BYTES(UNUSABLE), NULL, 0, &now, sizeof now, 8, path, 2, &found) == X509_FAULT);
     WANT(is_path(found, 0, 1, 0, 0));
+
+    /* what is wrong with the leaf whatever stands above it comes first: not yet valid, or with an extension that DER doesn't encode so */
+    static uint8_t spoilt[sizeof whole - 1];
+    memcpy(spoilt, bytes, len);
+    spoilt[leaf.place + BY_HAND_LEN - 11] = 0;
+    found = UNFOUND_PATH;
+    path[0] = 7;
+    WANT(x509_path_find(spoilt, len, anchors, 3, authorities, 4, &leaf, NULL, 0, FOR(now), 8, path, 2, &found) == X509_FAULT);
+    WANT(is_path(found, 3, 0, 0, X509_PATH_EXTENSION) && path[0] == 7);
+    memcpy(spoilt + leaf.place + NOT_BEFORE_PLACE, "49", 2);
+    WANT(x509_path_find(spoilt, len, NULL, 0, NULL, 0, &leaf, NULL, 0, FOR(now), 0, NULL, 0, &found) == X509_FAULT && is_path(found, 0, 0, 0, X509_PATH_MOMENT));
+    uint32_t side = 7;
+    WANT(x509_certificate_out_of_date(spoilt + leaf.place, leaf.len, now.moment, &side) == X509_OK && side == X509_NOT_YET_VALID);
+    WANT(x509_certificate_out_of_date(spoilt + leaf.place, leaf.len, 2493072000, &side) == X509_OK && side == 0);
+    WANT(x509_certificate_out_of_date(spoilt + leaf.place, leaf.len, 2493071999, &side) == X509_OK && side == X509_NOT_YET_VALID);
 
     /* no authorities, too few that are allowed, and no anchors */
     found = UNFOUND_PATH;
@@ -1032,6 +1061,7 @@ int main(int argc, char **argv)
     types_by_name();
     names();
     signed_parts();
+    dates();
     signatures();
     names_of_peers();
     faults();

@@ -31,6 +31,7 @@ static x509_path_fault fault;
 static x509_revocation_answer told = {7, 7, 7, 7, 7};
 static uint32_t may_sign = 7;
 static uint32_t crl_fault = 7;
+static uint32_t side = 7;
 static const uint8_t *const CERTIFICATE = (const uint8_t *)"Certificate";
 static const uint8_t *const OID = (const uint8_t *)"\x55\x1d\x0f";
 static const uint8_t *const SERIAL = (const uint8_t *)"\x02\x01\x03";
@@ -97,6 +98,7 @@ static void no_pointers(void)
     WANT(x509_certificate_extension(NULL, 0, NULL, 0, &found) == X509_MALFORMED);
     WANT(x509_certificate_extension(certificate, certificate_len, NULL, 0, &found) == X509_ABSENT);
     WANT(x509_certificate_signature(NULL, 0, &signature) == X509_MALFORMED);
+    WANT(x509_certificate_out_of_date(NULL, 0, 0, &side) == X509_MALFORMED && side == 7);
     WANT(x509_certificate_matches_name(NULL, 0, NULL, 0, &matches) == X509_MALFORMED && matches == 7);
     WANT(x509_certificate_matches_name(certificate, certificate_len, NULL, 0, &matches) == X509_VALUE && matches == 7);
     WANT(x509_certificate_matches_email(NULL, 0, NULL, 0, &matches) == X509_MALFORMED && matches == 7);
@@ -427,6 +429,7 @@ static void overlong(void)
     WANT(x509_certificate_view(bytes, len, &view) == X509_OVERLENGTH);
     WANT(x509_certificate_extension(bytes, len, OID, 3, &found) == X509_OVERLENGTH);
     WANT(x509_certificate_signature(bytes, len, &signature) == X509_OVERLENGTH);
+    WANT(x509_certificate_out_of_date(bytes, len, 0, &side) == X509_OVERLENGTH && side == 7);
     overlong_logged(bytes, len);
     WANT(x509_path_check(bytes, len, PATH, MOMENT, &fault) == X509_OVERLENGTH);
     WANT(is_decode(x509_path_check(certificate, certificate_len, bytes, len, &len, 1, MOMENT, &fault)));

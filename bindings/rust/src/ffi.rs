@@ -1278,7 +1278,7 @@ pub(crate) fn path_validate(
     }
 }
 
-/// A certificate, and a key under which its signature doesn't hold.
+/// A certificate, and a key under which it doesn't stand.
 #[repr(C)]
 #[derive(Clone, Copy, Debug, Default)]
 pub(crate) struct BadLink {
@@ -1293,15 +1293,6 @@ pub(crate) struct FoundPath {
     pub(crate) count: usize,
     pub(crate) place: usize,
     pub(crate) reason: u32,
-}
-
-impl FoundPath {
-    pub(crate) fn fault(&self) -> PathFault {
-        PathFault {
-            place: self.place,
-            reason: self.reason,
-        }
-    }
 }
 
 /// What a search answers.
@@ -1340,7 +1331,7 @@ impl Search {
         }
     }
 
-    /// Tells that the signature of the certificate isn't one under the key.
+    /// Tells that the certificate doesn't stand under the key, as where its signature isn't one by it.
     pub(crate) fn refuse(&mut self, certificate: &[u8], key: &[u8]) {
         let link = BadLink {
             certificate: append(&mut self.bytes, certificate),

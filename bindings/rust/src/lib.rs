@@ -65,7 +65,10 @@ pub use crl::{Crl, CrlEntries, CrlEntry, CrlRef, IssuedEntries, Revocation};
 pub use csr::{AttributeValue, AttributeValues, Csr, CsrAttribute, CsrAttributes, CsrRef};
 pub use error::{Error, ProfilePart};
 pub use extension::{Extension, Extensions, ParsedExtension};
-pub use find::{find_path, verify_server, FindError, FoundPath, SearchLimits, Store, VerifyError};
+pub use find::{
+    find_path, find_unrevoked_path, verify_server, FindError, FoundPath, SearchLimits, Store,
+    VerifyError, VerifySettings,
+};
 pub use general_name::{EdiPartyName, GeneralName, GeneralNames};
 pub use integer::{Integer, SerialNumber};
 pub use key::{AlgorithmIdentifier, KeyKind, PublicKey, RsaPublicKey, SignatureKind};
@@ -82,7 +85,7 @@ pub use path::{
 pub use peer::{DnsName, EmailAddress, ServerName};
 pub use revocation::{
     crl_faults, may_sign_crls, path_crl_faults, path_revocation_statuses, revocation_status,
-    CrlFault, RevocationSettings, RevocationStatus, SignedCrl,
+    CrlFault, RevocationCheck, RevocationScope, RevocationSettings, RevocationStatus, SignedCrl,
 };
 pub use time::{time_from_text, time_text};
 

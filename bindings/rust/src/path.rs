@@ -79,7 +79,7 @@ numbered! {
 }
 
 impl FaultReason {
-    fn text(self) -> &'static str {
+    pub(crate) fn text(self) -> &'static str {
         match self {
             FaultReason::Decode => "is no certificate",
             FaultReason::Algorithm => "has another algorithm in its signed part",

@@ -324,6 +324,103 @@ pub fn path_crl_faults<'a>(
     judge(path, trusted.into(), crls, certificates, settings, verifier)?.path_faults()
 }
 
+/// Which certificates of a path are asked for their revocation.
+#[derive(Clone, Copy, Debug, PartialEq, Eq, Hash)]
+pub enum RevocationScope {
+    /// The last one alone.
+    Leaf,
+
+    /// Each.
+    Path,
+}
+
+/// That certificates of a path that is searched for aren't revoked, by CRLs at hand.
+///
+/// ```
+/// use std::time::SystemTime;
+/// use x509_rattle::{CrlRef, RevocationCheck, RevocationScope, RevocationSettings, VerifySettings};
+///
+/// fn settings<'r>(crls: &'r [CrlRef<'r>], moment: SystemTime) -> VerifySettings<'r> {
+///     let mut check = RevocationCheck::new(crls, RevocationSettings::new(moment));
+///     // a server's own certificate alone, where a CRL speaks of it
+///     check.scope(RevocationScope::Leaf).allow_undetermined(true);
+///     let mut settings = VerifySettings::new(moment);
+///     settings.revocation(&check);
+///     settings
+/// }
+/// ```
+#[derive(Clone, Debug)]
+pub struct RevocationCheck<'r> {
+    crls: &'r [CrlRef<'r>],
+    certificates: &'r [CertificateRef<'r>],
+    settings: RevocationSettings,
+    scope: RevocationScope,
+    allows_undetermined: bool,
+}
+
+impl<'r> RevocationCheck<'r> {
+    /// That the CRLs say of each certificate of the path that it isn't revoked ([`RevocationStatus::Unrevoked`]), under the settings.
+    pub fn new(crls: &'r [CrlRef<'r>], settings: RevocationSettings) -> RevocationCheck<'r> {
+        RevocationCheck {
+            crls,
+            certificates: &[],
+            settings,
+            scope: RevocationScope::Path,
+            allows_undetermined: false,
+        }
+    }
+
+    /// Further certificates that may have signed the CRLs, beside the anchor and those of the path: [`path_revocation_statuses`] says which count.
+    pub fn certificates(&mut self, further: &'r [CertificateRef<'r>]) -> &mut RevocationCheck<'r> {
+        self.certificates = further;
+        self
+    }
+
+    /// Which certificates are asked for.
+    pub fn scope(&mut self, scope: RevocationScope) -> &mut RevocationCheck<'r> {
+        self.scope = scope;
+        self
+    }
+
+    /// Whether a certificate is let through of which the CRLs don't say whether it is revoked ([`RevocationStatus::Undetermined`]), as where there is none for
+    /// it. Who withholds a CRL then gets a revoked one through.
+    pub fn allow_undetermined(&mut self, is_allowed: bool) -> &mut RevocationCheck<'r> {
+        self.allows_undetermined = is_allowed;
+        self
+    }
+
+    /// The topmost certificate of a path that isn't let through, by its place, and its status.
+    pub(crate) fn first_refused<'a>(
+        &self,
+        path: &Validated<'a>,
+        anchor: CertificateRef<'a>,
+        verifier: &impl Verifier,
+    ) -> Result<Option<(usize, RevocationStatus)>, Error>
+    where
+        'r: 'a,
+    {
+        let statuses = path_revocation_statuses(
+            path,
+            anchor,
+            self.crls,
+            self.certificates,
+            &self.settings,
+            verifier,
+        )?;
+        let first = match self.scope {
+            RevocationScope::Leaf => statuses.len().saturating_sub(1),
+            RevocationScope::Path => 0,
+        };
+        let is_refused = |status: &RevocationStatus| match status {
+            RevocationStatus::Unrevoked => false,
+            RevocationStatus::Undetermined { .. } => !self.allows_undetermined,
+            RevocationStatus::Revoked { .. } => true,
+        };
+        let mut asked = statuses.into_iter().enumerate().skip(first);
+        Ok(asked.find(|(_, status)| is_refused(status)))
+    }
+}
+
 fn judge<'j, 'a, V: Verifier>(
     path: &'j Validated<'a>,
     trusted: Trusted<'a>,
