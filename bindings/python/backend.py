@@ -33,6 +33,7 @@ Requires-Python: {PROJECT["requires-python"]}
 {EXTRAS}Description-Content-Type: text/markdown
 
 {(HERE / "README.md").read_text(encoding="utf-8")}"""
+SCRIPTS = "".join(f"{name} = {called}\n" for name, called in PROJECT["scripts"].items())
 WHEEL = "Wheel-Version: 1.0\nGenerator: backend.py\nRoot-Is-Purelib: {purelib}\nTag: {tag}\n"
 LICENCES = "LICENSE-APACHE", "LICENSE-MIT"
 # as `_library.py` looks for it
@@ -54,7 +55,8 @@ def _files(tag: str, library: str | None, licences: str | None) -> dict[str, byt
     texts = [HERE / name for name in LICENCES if (HERE / name).is_file()] + more
     files |= {f"{NAME}.dist-info/licenses/{it.name}": it.read_bytes() for it in texts}
     wheel = WHEEL.format(purelib=str(library is None).lower(), tag=tag)
-    return files | {f"{NAME}.dist-info/METADATA": METADATA.encode(), f"{NAME}.dist-info/WHEEL": wheel.encode()}
+    told = {"METADATA": METADATA, "WHEEL": wheel, "entry_points.txt": f"[console_scripts]\n{SCRIPTS}"}
+    return files | {f"{NAME}.dist-info/{name}": text.encode() for name, text in told.items()}
 
 
 def build_wheel(wheel_directory: str, config_settings: Any = None, metadata_directory: str | None = None) -> str:

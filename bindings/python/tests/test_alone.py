@@ -15,7 +15,7 @@ TOP = pathlib.Path(__file__).resolve().parents[3]
 
 # a run in which no module of `cryptography` is found
 ALONE = """
-import datetime, hashlib, importlib.abc, pathlib, sys
+import contextlib, datetime, hashlib, importlib.abc, io, pathlib, sys
 
 class Hidden(importlib.abc.MetaPathFinder):
     def find_spec(self, name, path, target=None):
@@ -24,6 +24,7 @@ class Hidden(importlib.abc.MetaPathFinder):
 
 sys.meta_path.insert(0, Hidden())
 import x509_cert as x509
+from x509_cert.__main__ import main
 
 def refused(kind, call):
     try:
@@ -62,6 +63,14 @@ builder = builder.add_extension(x509.SubjectKeyIdentifier.from_public_key(certif
 made = builder.sign(x509.SignatureAlgorithm.ED25519, lambda part: bytes(64))
 assert made.signature_hash_algorithm is None and made.public_key_bytes == certificate.public_key_bytes
 assert x509.load_pem_x509_certificate(made.public_bytes(x509.Encoding.PEM)) == made
+asked = x509.Revocation([crl], allows_undetermined=True)
+assert x509.find_path([certificate], [], certificate, now, lambda *_: True, revocation=asked).path.certificates == (certificate,)
+assert "cryptography" in refused(ImportError, lambda: x509.find_path([certificate], [], certificate, now))
+said, name = io.StringIO(), "examples/data/certificate.der"
+with contextlib.redirect_stdout(said), contextlib.redirect_stderr(said):
+    assert main(["show", name]) == 0
+    assert main(["verify", "--roots", name, "--time", now.isoformat(), name]) == 2
+assert said.getvalue().removeprefix(certificate.to_text()).startswith("x509-cert: keys and signatures are those of the package cryptography"), said.getvalue()
 for bad in (None, 5, object(), lambda part: bytes(64)):
     refused(TypeError, lambda: builder.sign(bad, None))
 assert not [it for it in sys.modules if it.partition(".")[0] == "cryptography"]

@@ -981,6 +981,7 @@ READ = {
     ours.ValidatedPath,
     ours.RevocationStatus,
     ours.SignedCrl,
+    ours.Revocation,
     ours.PathControls,
     ours.PublicKey,
     ours.UniqueIdentifier,

@@ -5,12 +5,18 @@ usage: X509_LIBRARY=.../libx509.so PYTHONPATH=bindings/python/src python3 -m uni
 
 from __future__ import annotations
 
+import contextlib
+import datetime
 import glob
 import importlib.util
 import os
 import pathlib
+import socket
+import ssl
 import subprocess
 import sys
+import tempfile
+import threading
 import types
 import unittest
 import warnings
@@ -20,13 +26,15 @@ import x509_cert as ours
 
 try:
     from cryptography import x509 as theirs
+    from cryptography.hazmat.primitives import hashes
     from cryptography.hazmat.primitives.asymmetric import ec, rsa
-    from cryptography.hazmat.primitives.serialization import Encoding, PublicFormat
+    from cryptography.hazmat.primitives.serialization import Encoding, NoEncryption, PrivateFormat, PublicFormat
 except ImportError:  # the test that asks it is left out then
     theirs = None  # type: ignore[assignment]
 
 TOP = pathlib.Path(__file__).resolve().parents[3]
 CERTIFICATE = TOP / "examples/data/certificate.der"
+NOW, DAY = datetime.datetime(2030, 1, 1, tzinfo=datetime.timezone.utc), datetime.timedelta(days=1)
 
 
 def example(name: str) -> types.ModuleType:
@@ -150,6 +158,78 @@ class Names(unittest.TestCase):
             status, said, why = ran("name", *words)
             self.assertEqual((status, said), (1, ""))
             self.assertTrue(why and "Traceback" not in why, why)
+
+
+@unittest.skipIf(theirs is None, "the package cryptography isn't there")
+class Tls(unittest.TestCase):
+    """The TLS client, against a server of Python's `ssl`, to which nothing is sent behind the handshake."""
+
+    def setUp(self) -> None:
+        held = tempfile.TemporaryDirectory()
+        self.addCleanup(held.cleanup)
+        self.folder = pathlib.Path(held.name)
+        self.keys = {it: ec.generate_private_key(ec.SECP256R1()) for it in ("CN=Root", "CN=Upper", "CN=Leaf")}
+        authority, host = theirs.BasicConstraints(True, None), theirs.SubjectAlternativeName([theirs.DNSName("www.example.org")])
+        rows = ("CN=Root", "CN=Root", authority), ("CN=Root", "CN=Upper", authority), ("CN=Upper", "CN=Leaf", host)
+        self.root, self.upper, self.leaf = (self.issue(*it) for it in rows)
+        self.roots = self.put("roots.pem", self.root.public_bytes(Encoding.PEM))
+
+    def put(self, name: str, *parts: bytes) -> str:
+        (self.folder / name).write_bytes(b"".join(parts))
+        return str(self.folder / name)
+
+    def issue(self, issuer: str, subject: str, extension: Any) -> Any:
+        names = map(theirs.Name.from_rfc4514_string, (issuer, subject))
+        builder = theirs.CertificateBuilder(*names, self.keys[subject].public_key(), theirs.random_serial_number(), NOW - DAY, NOW + DAY)
+        return builder.add_extension(extension, True).sign(self.keys[issuer], hashes.SHA256())
+
+    def crl(self, name: str, *revoked: Any) -> str:
+        builder = theirs.CertificateRevocationListBuilder(theirs.Name.from_rfc4514_string("CN=Upper"), NOW - DAY, NOW + DAY)
+        for it in revoked:
+            builder = builder.add_revoked_certificate(theirs.RevokedCertificateBuilder(it.serial_number, NOW - DAY).build())
+        return self.put(name, builder.sign(self.keys["CN=Upper"], hashes.SHA256()).public_bytes(Encoding.PEM))
+
+    def asked(self, sent: list[Any], *words: str) -> tuple[int, str, bytes]:
+        """The status of the client, what it prints, and what the server reads."""
+        key = self.keys["CN=Leaf"].private_bytes(Encoding.PEM, PrivateFormat.PKCS8, NoEncryption())
+        context = ssl.SSLContext(ssl.PROTOCOL_TLS_SERVER)
+        context.load_cert_chain(self.put("server.pem", *(it.public_bytes(Encoding.PEM) for it in sent)), self.put("key.pem", key))
+        read: list[bytes] = []
+        with socket.create_server(("127.0.0.1", 0)) as listening:
+
+            def serve() -> None:
+                plain, _ = listening.accept()
+                with contextlib.suppress(OSError), plain, context.wrap_socket(plain, server_side=True, suppress_ragged_eofs=True) as server:
+                    read.append(server.recv(100))
+
+            thread = threading.Thread(target=serve)
+            thread.start()
+            host, *others = words or ("www.example.org",)
+            status, said, why = ran("tls_client", host, str(listening.getsockname()[1]), self.roots, str(int(NOW.timestamp())), *others)
+            thread.join(20)
+        self.assertEqual(why, "")
+        return status, said, b"".join(read)
+
+    def test_servers(self) -> None:
+        good, clean, revoked = [self.leaf, self.upper], self.crl("clean.pem"), self.crl("revoked.pem", self.leaf)
+        for sent, words, wanted in (
+            (good, ["www.example.org"], "trusted 2"),
+            (good, ["www.example.com"], "not the host"),
+            (good[:1], ["www.example.org"], "unknown issuer"),
+            (good, ["www.example.org", clean], "trusted 2"),
+            (good, ["www.example.org", revoked], "revoked 1"),
+        ):
+            with self.subTest(wanted):
+                self.assertEqual(self.asked(sent, *words), (0 if wanted.startswith("trusted") else 1, f"{wanted}\n", b""))
+
+    def test_refused(self) -> None:
+        with socket.create_server(("127.0.0.1", 0)) as listening:
+            port = str(listening.getsockname()[1])
+        for host, said in (("www.example.org", "no handshake"), ("a b", "refused 5")):
+            self.assertEqual(ran("tls_client", host, port, self.roots)[:2], (1, f"{said}\n"))
+        for words in (["www.example.org", port, str(self.folder / "none")], ["www.example.org", port, str(CERTIFICATE)]):
+            status, said, why = ran("tls_client", *words)
+            self.assertEqual((status, said, "Traceback" in why, bool(why)), (1, "", False, True))
 
 
 if __name__ == "__main__":

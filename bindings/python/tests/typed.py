@@ -66,8 +66,22 @@ def lists() -> None:
     assert_type(csr.is_signature_valid, bool)
 
 
+def finding(certificate: x509.Certificate) -> None:
+    asked = x509.Revocation([], certificates=[certificate], scope=x509.RevocationScope.leaf, allows_undetermined=True)
+    found = x509.find_path([certificate], [certificate.public_bytes()], certificate, NOW, revocation=asked)
+    assert_type(found.statuses, tuple[x509.RevocationStatus, ...])
+    store = x509.verification.Store([certificate])
+    verifier = x509.verification.PolicyBuilder().store(store).time(NOW).revocation(asked).build_server_verifier("a.example")
+    try:
+        assert_type(verifier.verify(certificate, [certificate]), list[x509.Certificate])
+    except x509.verification.VerificationError as refused:
+        assert_type(refused.fault, "x509.PathFault | None")
+        assert_type(refused.revocation, "x509.RevocationFault | None")
+
+
 def main() -> None:
     reading(certificates())
+    finding(certificates())
     values()
     lists()
     print("done")

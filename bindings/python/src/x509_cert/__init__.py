@@ -20,7 +20,14 @@ from .certificate import (
     random_serial_number,
     reencode,
 )
-from .crl import CertificateRevocationList, RevokedCertificate, RevokedCertificateBuilder, load_der_x509_crl, load_pem_x509_crl
+from .crl import (
+    CertificateRevocationList,
+    RevokedCertificate,
+    RevokedCertificateBuilder,
+    load_der_x509_crl,
+    load_pem_x509_crl,
+    load_pem_x509_crls,
+)
 from .extensions import (
     AccessDescription,
     AuthorityInformationAccess,
@@ -114,7 +121,18 @@ from .request import (
     load_der_x509_csr,
     load_pem_x509_csr,
 )
-from .revocation import CrlFault, RevocationState, RevocationStatus, SignedCrl, may_sign_crls, path_revocation_statuses, revocation_status
+from .revocation import (
+    CrlFault,
+    Revocation,
+    RevocationFault,
+    RevocationScope,
+    RevocationState,
+    RevocationStatus,
+    SignedCrl,
+    may_sign_crls,
+    path_revocation_statuses,
+    revocation_status,
+)
 from .validation import ValidatedPath, validate_path
 
 __version__ = "0.1.0"
@@ -188,6 +206,7 @@ __all__ = [
     "load_pem_x509_certificate",
     "load_pem_x509_certificates",
     "load_pem_x509_crl",
+    "load_pem_x509_crls",
     "load_pem_x509_csr",
     "logs",
     "may_sign_crls",
@@ -218,7 +237,10 @@ __all__ = [
     "reencode",
     "RegisteredID",
     "RelativeDistinguishedName",
+    "Revocation",
     "revocation_status",
+    "RevocationFault",
+    "RevocationScope",
     "RevocationState",
     "RevocationStatus",
     "RevokedCertificate",

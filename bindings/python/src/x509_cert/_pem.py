@@ -39,7 +39,12 @@ def encoded(data: bytes, label: str | None, encoding: object) -> bytes:
 def blocks(data: bytes, labels: tuple[str, ...]) -> list[bytes]:
     """The DER in each block with one of these labels, in order; other blocks, and what stands between blocks, are passed over. A ValueError where there is
     none, one has no end, or one isn't base64."""
-    found: list[bytes] = []
+    return [it for _, it in labelled_blocks(data, labels)]
+
+
+def labelled_blocks(data: bytes, labels: tuple[str, ...]) -> list[tuple[str, bytes]]:
+    """The same, each behind its label."""
+    found: list[tuple[str, bytes]] = []
     others: list[str] = []
     label: str | None = None
     lines: list[bytes] = []
@@ -48,7 +53,7 @@ def blocks(data: bytes, labels: tuple[str, ...]) -> list[bytes]:
             label, lines = _label(line, _BEGIN), []
         elif _label(line, _END) == label:
             if label in labels:
-                found.append(_decoded(lines, label))
+                found.append((label, _decoded(lines, label)))
             else:
                 others.append(label)
             label = None

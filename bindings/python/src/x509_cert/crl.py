@@ -11,7 +11,7 @@ from typing import Iterator, overload
 from . import _cryptography
 from ._cryptography import AnyPublicKey
 from ._extension import ExtensionType
-from ._given import instance, octets, whole, whole_seconds
+from ._given import der_of, instance, octets, whole, whole_seconds
 from ._library import CrlEntryView, CrlView, SignatureView, Span, fill, find, view, walk
 from ._numbers import moment, serial_element, whole_number
 from ._pem import blocks, refuse_pem
@@ -218,6 +218,12 @@ class CertificateRevocationList(Signed):
         return f"<CertificateRevocationList of {self._len} entries>"
 
 
+def crl_of(given: object, what: str) -> CertificateRevocationList:
+    """A CertificateRevocationList, or that of `cryptography` by its DER."""
+    data = der_of(given, "CertificateRevocationList")
+    return instance(given, CertificateRevocationList, what) if data is None else CertificateRevocationList(data)
+
+
 def load_der_x509_crl(data: bytes, backend: object = None) -> CertificateRevocationList:
     """The CRL that the bytes are; an X509Error where they are none."""
     return CertificateRevocationList(data)
@@ -226,3 +232,8 @@ def load_der_x509_crl(data: bytes, backend: object = None) -> CertificateRevocat
 def load_pem_x509_crl(data: bytes, backend: object = None) -> CertificateRevocationList:
     """The first CRL in PEM (RFC 7468 6); a ValueError where there is none."""
     return CertificateRevocationList(blocks(data, ("X509 CRL",))[0])
+
+
+def load_pem_x509_crls(data: bytes) -> list[CertificateRevocationList]:
+    """All CRLs in PEM, in order; a ValueError where there is none."""
+    return [CertificateRevocationList(it) for it in blocks(data, ("X509 CRL",))]

@@ -29,6 +29,11 @@ class PathFault(Exception):
         super().__init__(f"certificate {place} {self.REASONS[reason - 1]}{side}")
         self.place, self.reason, self.is_expired = place, reason, is_expired
 
+    @property
+    def said(self) -> str:
+        """What is said of the certificate, as `has expired` or `is no authority`."""
+        return {None: self.REASONS[self.reason - 1], True: "has expired", False: "isn't valid yet"}[self.is_expired]
+
 
 MOMENT_FAULT, SIGNATURE_FAULT = 4, 5
 # what says whether bits are a signature: of the DER of a key and of an algorithm, of a message, and of the bits

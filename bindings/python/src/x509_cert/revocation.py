@@ -12,8 +12,8 @@ from typing import Callable, Iterable, Iterator
 from ._given import instance, listed, octets, seconds
 from ._library import MALFORMED, OVERLENGTH, RevocationAnswerView, RevocationSettings, SignedCrlView, Span, X509Error, number, view
 from ._numbers import moment as moment_of
-from .certificate import Certificate
-from .crl import CertificateRevocationList
+from .certificate import Certificate, certificate_of
+from .crl import CertificateRevocationList, crl_of
 from .extensions import AuthorityKeyIdentifier, DuplicateExtension, ExtensionNotFound, ReasonFlags, SubjectKeyIdentifier, _reasons
 from .name import Name
 from .path import PathFault, Verifier, _verifies, working_key
@@ -97,6 +97,59 @@ class RevocationStatus:
     @property
     def is_revoked(self) -> bool:
         return self.state is RevocationState.revoked
+
+
+class RevocationScope(enum.Enum):
+    """Of which certificates of a path CRLs are asked."""
+
+    #: of the last one alone, that of the peer
+    leaf = "leaf"
+    #: of each
+    path = "path"
+
+
+class Revocation:
+    """What is asked of CRLs where a path is found (`find_path`, `verification`): which CRLs, and about which certificates of the path. One whose status they
+    don't tell is refused, but with `allows_undetermined`. The further `certificates`, `without_next_update` and `use_deltas` are as of
+    `path_revocation_statuses`. CRLs and certificates of `cryptography` are taken too."""
+
+    def __init__(
+        self,
+        crls: Iterable[CertificateRevocationList],
+        *,
+        certificates: Iterable[Certificate] = (),
+        scope: RevocationScope = RevocationScope.path,
+        allows_undetermined: bool = False,
+        without_next_update: bool = False,
+        use_deltas: bool = False,
+    ) -> None:
+        self.crls = tuple(crl_of(it, "a CRL") for it in crls)
+        self.certificates = tuple(certificate_of(it, "a certificate of a signer") for it in certificates)
+        self.scope = instance(scope, RevocationScope, "the scope")
+        self.allows_undetermined = instance(allows_undetermined, bool, "allows_undetermined")
+        self.without_next_update = instance(without_next_update, bool, "without_next_update")
+        self.use_deltas = instance(use_deltas, bool, "use_deltas")
+
+
+class RevocationFault(Exception):
+    """What is wrong with a path by CRLs: the place of a certificate in it, from 0, and its status. It is revoked, or else nothing says that it isn't."""
+
+    def __init__(self, place: int, status: RevocationStatus) -> None:
+        super().__init__(f"certificate {place} {_said_of(status)}")
+        self.place, self.status = place, status
+
+
+    @property
+    def said(self) -> str:
+        """What is said of the certificate, as `was revoked at 2030-01-01T00:00:00Z: keyCompromise`."""
+        return _said_of(self.status)
+
+
+def _said_of(status: RevocationStatus) -> str:
+    if status.date is None:
+        return "may be revoked: no CRL says that it isn't"
+    why = "" if status.reason in (None, ReasonFlags.unspecified) else f": {str.__str__(status.reason)}"
+    return f"was revoked at {status.date:%Y-%m-%dT%H:%M:%SZ}{why}"
 
 
 @dataclasses.dataclass(frozen=True)
@@ -192,14 +245,17 @@ class _Judge:
         moment: datetime.datetime,
         settings: RevocationSettings,
         verify: Verifier,
+        valid: dict[_Chain, bool] | None = None,
     ) -> None:
         self.path, self.anchor, self.crls = path, anchor, crls
+        self.valid = {} if valid is None else valid
         self.others = [it for it in dict.fromkeys(others) if it not in path]
         self.moment, self.settings, self.verify = moment, settings, verify
         self.name, _ = _name_and_key(anchor)
         # the latest first
         self.places = sorted(range(len(crls)), key=lambda place: crls[place].last_update_utc, reverse=True)
         self.chains: dict[Certificate, _Chain | None] = {}
+        self.issuers: dict[Certificate, list[Certificate]] = {}
         # the CRLs by their places, each with those whose key signed it, and which certificates of these have to be unrevoked
         signed = ((place, signer) for place in self.places for signer in self.signers(crls[place]))
         self.given = [(place, signer, self.further(signer)) for place, signer in signed if self.is_signed(place, signer)]
@@ -309,16 +365,45 @@ class _Judge:
             issuer = chain[0].issuer
             if issuer.matches(self.name):
                 yield chain
-            if len(chain) < _LONGEST_CHAIN:
-                above = ((it, *chain) for it in (*self.path, *self.others) if it not in chain and it.subject.matches(issuer))
-                found += itertools.islice(above, max(0, _MOST_CHAINS - len(found)))
+            if len(chain) < _LONGEST_CHAIN and len(found) < _MOST_CHAINS:
+                above = ((it, *chain) for it in self.issuers_of(chain[0]) if it not in chain)
+                found += itertools.islice(above, _MOST_CHAINS - len(found))
+
+    def issuers_of(self, certificate: Certificate) -> list[Certificate]:
+        """The certificates that have the name of its issuer."""
+        if certificate not in self.issuers:
+            name = certificate.issuer
+            self.issuers[certificate] = [it for it in (*self.path, *self.others) if it.subject.matches(name)]
+        return self.issuers[certificate]
 
     def is_valid(self, chain: _Chain) -> bool:
-        try:
-            validate_path(self.anchor, chain, self.moment, self.verify)
-        except (PathFault, X509Error):
-            return False
-        return True
+        if chain not in self.valid:
+            try:
+                validate_path(self.anchor, chain, self.moment, self.verify)
+                self.valid[chain] = True
+            except (PathFault, X509Error):
+                self.valid[chain] = False
+        return self.valid[chain]
+
+
+def _asked_statuses(
+    path: ValidatedPath,
+    anchor: Certificate,
+    asked: Revocation,
+    moment: datetime.datetime,
+    verify: Verifier,
+    valid: dict[_Chain, bool],
+) -> list[RevocationStatus]:
+    """`path_revocation_statuses`, as it is asked; `valid` is what is known of chains under the anchor, and becomes what is found out."""
+    settings = _settings(moment, asked.without_next_update, asked.use_deltas)
+    return _Judge(path.certificates, anchor, list(asked.crls), list(asked.certificates), moment, settings, verify, valid).statuses()
+
+
+def _may_be_told(certificate: Certificate, asked: Revocation, moment: datetime.datetime) -> bool:
+    """Whether the CRLs say whether the certificate is revoked, if the signer of each counts: if not, they don't in any path."""
+    crls = [SignedCrl(it, (it.issuer, certificate.public_key_bytes)) for it in asked.crls]
+    question = _Question(certificate, crls, [True] * len(crls), _settings(moment, asked.without_next_update, asked.use_deltas))
+    return question.status().state is not RevocationState.undetermined
 
 
 def _settings(moment: datetime.datetime, without_next_update: bool, use_deltas: bool) -> RevocationSettings:

@@ -1,8 +1,8 @@
 """Whether a peer's certificate is to be trusted, in the words of `cryptography.x509.verification`: a path is found under a store of roots (`find_path`), its
-signatures are verified, and the certificate has to be that of the server.
+signatures are verified, and the certificate has to be that of the server. Where CRLs are at hand they are asked too.
 
     store = Store(load_pem_x509_certificates(roots))
-    verifier = PolicyBuilder().store(store).build_server_verifier(DNSName("www.example.org"))
+    verifier = PolicyBuilder().store(store).revocation(Revocation(crls)).build_server_verifier(DNSName("www.example.org"))
     chain = verifier.verify(leaf, intermediates)
 """
 
@@ -20,17 +20,27 @@ from .general_name import GeneralName
 from .oid import ExtendedKeyUsageOID, ObjectIdentifier
 from .path import PathFault, Verifier
 from .peer import ServerName, server_name, text_of_server
+from .revocation import Revocation, RevocationFault
 
 __all__ = ["ClientVerifier", "PolicyBuilder", "ServerVerifier", "Store", "VerificationError", "VerifiedClient"]
 
 
 class VerificationError(Exception):
     """Why a certificate isn't to be trusted. `fault` is what is wrong with the path that came furthest, whose certificates are `path`, topmost first, under the
-    root `anchor`; each is None where no path leads to a root by its names, or where the certificate isn't that of the server."""
+    root `anchor`; each is None where no path leads to a root by its names, or where the certificate isn't that of the server. Of a certificate that is revoked,
+    or that may be, `revocation` says so. These and `is_limit` are as of `NoPath`."""
 
-    def __init__(self, text: str, fault: PathFault | None = None, path: tuple[Certificate, ...] | None = None, anchor: Certificate | None = None) -> None:
+    def __init__(
+        self,
+        text: str,
+        fault: PathFault | None = None,
+        path: tuple[Certificate, ...] | None = None,
+        anchor: Certificate | None = None,
+        is_limit: bool = False,
+        revocation: RevocationFault | None = None,
+    ) -> None:
         super().__init__(text)
-        self.fault, self.path, self.anchor = fault, path, anchor
+        self.fault, self.path, self.anchor, self.is_limit, self.revocation = fault, path, anchor, is_limit, revocation
 
 
 class Store:
@@ -56,6 +66,7 @@ class _Policy:
     time: datetime.datetime | None = None
     max_chain_depth: int | None = None
     verify: Verifier | None = None
+    revocation: Revocation | None = None
 
 
 class PolicyBuilder:
@@ -87,6 +98,10 @@ class PolicyBuilder:
         """What verifies signatures, as of `validate_path`; `cryptography` where nothing is said."""
         return self._with("verify", verify)
 
+    def revocation(self, revocation: Revocation) -> PolicyBuilder:
+        """What is asked of CRLs; nothing is where nothing is said."""
+        return self._with("revocation", instance(revocation, Revocation, "the revocation"))
+
     def build_server_verifier(self, subject: ServerName) -> ServerVerifier:
         """What verifies the certificate of a server of this name (RFC 9525): its SubjectAlternativeName has to have it, and its ExtendedKeyUsage, where it has
         one, has to allow serverAuth, as those above it have to. An X509Error where the name is none of a server."""
@@ -104,14 +119,23 @@ class _Verifier:
             raise ValueError("a verifier has a store")
         self._policy, self.store = policy, policy.store
 
-    def _chain(self, leaf: Certificate, intermediates: Iterable[Certificate], purpose: ObjectIdentifier) -> list[Certificate]:
+    def _chain(self, leaf: Certificate, intermediates: Iterable[Certificate | bytes], purpose: ObjectIdentifier) -> list[Certificate]:
         policy = self._policy
         moment = datetime.datetime.now(datetime.timezone.utc) if policy.time is None else policy.time
         depth = 8 if policy.max_chain_depth is None else policy.max_chain_depth
         try:
-            found = find_path(self.store.certificates, intermediates, leaf, moment, policy.verify, purposes=[purpose], max_depth=depth)
-        except NoPath as refused:
-            raise VerificationError(str(refused), refused.fault, refused.path, refused.anchor) from refused
+            found = find_path(
+                self.store.certificates,
+                intermediates,
+                leaf,
+                moment,
+                policy.verify,
+                purposes=[purpose],
+                max_depth=depth,
+                revocation=policy.revocation,
+            )
+        except NoPath as it:
+            raise VerificationError(str(it), it.fault, it.path, it.anchor, it.is_limit, it.revocation) from it
         certificates = list(reversed(found.path.certificates))
         return certificates if certificates[-1] == found.anchor else [*certificates, found.anchor]
 
@@ -123,10 +147,11 @@ class ServerVerifier(_Verifier):
         super().__init__(policy)
         self.subject = subject
 
-    def verify(self, leaf: Certificate, intermediates: Iterable[Certificate]) -> list[Certificate]:
+    def verify(self, leaf: Certificate, intermediates: Iterable[Certificate | bytes]) -> list[Certificate]:
         """The chain, the server's certificate first and the root last, where the certificate is that of the server and is to be trusted; a VerificationError
-        else. The intermediates are those that came with it, in any order, and more or fewer than are needed. Certificates of `cryptography` are taken too.
-        Revocation isn't asked: `path_revocation_statuses` is for that."""
+        else. The intermediates are those that came with it, in any order, and more or fewer than are needed; by their DER, of which what is no certificate is
+        passed over, or as certificates. Certificates of `cryptography` are taken too.
+        CRLs are asked where the policy has a `Revocation`."""
         leaf = certificate_of(leaf, "the certificate")
         if not leaf.matches_name(self.subject):
             raise VerificationError(f"the certificate isn't that of {text_of_server(self.subject).decode('utf-8')}")
@@ -136,7 +161,7 @@ class ServerVerifier(_Verifier):
 class ClientVerifier(_Verifier):
     """Verifies certificates of clients. It is made by `PolicyBuilder`."""
 
-    def verify(self, leaf: Certificate, intermediates: Iterable[Certificate]) -> VerifiedClient:
+    def verify(self, leaf: Certificate, intermediates: Iterable[Certificate | bytes]) -> VerifiedClient:
         """The client's names and its chain where the certificate is to be trusted; a VerificationError else. As of `ServerVerifier`."""
         leaf = certificate_of(leaf, "the certificate")
         chain = self._chain(leaf, intermediates, ExtendedKeyUsageOID.CLIENT_AUTH)
