@@ -34,8 +34,8 @@ NAME = "x509-rattle"
 SCRIPTS = pathlib.Path("tools/build")
 # what a program in C, Rust or Python is written after; the others in examples/ are tests
 EXAMPLES = {
-    "c": "authority.c facts.c name.c path.c payload.h payloads.c revoked.c show.c timestamps.c verifying.h",
-    "python": "authority.py facts.py name.py path.py payload.py payloads.py show.py",
+    "c": "authority.c facts.c name.c path.c payload.h payloads.c revoked.c show.c timestamps.c tls_client.c verifying.h",
+    "python": "authority.py facts.py name.py path.py payload.py payloads.py show.py tls_client.py",
     "data": "certificate.der list.der request.der",
 }
 # the pages that users look things up in

@@ -42,6 +42,11 @@ def source_of(crate):
     return TOP / "crates" / crate / "src"
 
 
+def _ends_declaration(lines):
+    """Whether a function without a body ends here: no `;` of a record in a clause does that."""
+    return lines[-1].endswith("{}") or lines[-1].endswith(";") and sum(it.count("{") - it.count("}") for it in lines) == 0
+
+
 def functions(file):
     """The functions of a file, in its order, as `rt fmt` lays them out: those outside of blocks, and those of impls and traits."""
     lines, block, docs, at = file.read_text(encoding="utf-8").split("\n"), "", [], 0
@@ -56,7 +61,7 @@ def functions(file):
             docs.append(text)
         elif NAMED.match(text) and line.index(text) == depth:
             begin, has_clauses = at, False
-            while not lines[at].endswith((";", "{}")) and not lines[at] == " " * depth + "{" and (has_clauses or not lines[at].endswith(" {")):
+            while not _ends_declaration(lines[begin : at + 1]) and not lines[at] == " " * depth + "{" and (has_clauses or not lines[at].endswith(" {")):
                 at += 1
                 has_clauses = has_clauses or lines[at].lstrip().startswith(("ensures", "requires"))
             head = at

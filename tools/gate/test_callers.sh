@@ -314,6 +314,24 @@ spoil() {
     fi
 }
 
+# usage: spoil_pools NAME FLAGS..: paths found over spoilt candidates, and under spoilt anchors
+spoil_pools() {
+    local name=$1 at path=()
+    shift
+    [ -d "$folder/paths" ] || return 0
+    for at in root intermediate_1 sub server_of_sub; do
+        path+=("$folder/paths/$at.der")
+    done
+    "${compiler[@]}" -O2 "$@" "$robustness/spoil_pools.c" "$folder/libx509_c.a" "$folder/liblibc_c.a" -o "$folder/spoil_pools"
+    if "$folder/spoil_pools" 5000 1 1893456000 "${path[@]}" >"$folder/printed" 2>&1; then
+        echo "passed: $name: $(cat "$folder/printed")"
+    else
+        echo "failed: $name:"
+        cat "$folder/printed"
+        failed=1
+    fi
+}
+
 # usage: note NAME SEEN FLAGS..: runs a program in C that asks calls, linked so that it notes their answers
 note() {
     local source=$1 name words=("${files[@]}") seen=$2
@@ -354,8 +372,10 @@ if echo 'int main(void) { return 0; }' | "${CC:-cc}" -x c "${sanitizers[@]}" - -
     run_c "C with sanitizers" "_sanitized"
     run_spoilt "C with sanitizers" "_sanitized"
     spoil "C with sanitizers, spoilt inputs" 20000 1 "${sanitizers[@]}"
+    spoil_pools "C with sanitizers, spoilt candidates" "${sanitizers[@]}"
 else
     echo "left out, since ${CC:-cc} lacks them: runs with AddressSanitizer and UBSan"
+    spoil_pools "C, spoilt candidates"
 fi
 "${compiler[@]}" "$robustness/refuse_memory.c" -Wl,--wrap=malloc,--wrap=realloc,--wrap=free \
     "$folder/libx509_c.a" "$folder/liblibc_c.a" -o "$folder/refuse_memory"
@@ -397,6 +417,25 @@ test_serde() {
         --config 'source.crates-io.replace-with="debian"' --config "source.debian.directory=\"$from\""
 }
 
+# a TLS client by rustls, as Debian has it, and its servers
+test_rustls() {
+    local from=/usr/share/cargo/registry at=$folder/rustls
+    if ! compgen -G "$from/rustls-0.20.*" >/dev/null || ! compgen -G "$from/ring-0.16.*" >/dev/null; then
+        echo "left out, since Debian's librust-rustls-dev isn't installed: a TLS client by rustls"
+        return 0
+    elif ! python3 -c "import cryptography" 2>"$folder/said"; then
+        echo "left out, since Python's cryptography isn't installed: a TLS client by rustls"
+        return 0
+    fi
+    has openssl "a TLS client by rustls" || return 0
+    cp -r "$top/examples/rust/rustls" "$at"
+    sed -i "s#\"../../../bindings/rust\"#\"$top/bindings/rust\"#" "$at/Cargo.toml"
+    run_tests "Rust, a TLS client by rustls" cargo build -q --offline --manifest-path "$at/Cargo.toml" \
+        --config 'source.crates-io.replace-with="debian"' --config "source.debian.directory=\"$from\""
+    [ ! -x "$folder/target/debug/tls-client" ] ||
+        run_tests "Rust, a TLS client by rustls and its servers" python3 -B "$gate/test_tls.py" "$folder/target/debug/tls-client"
+}
+
 # the crate and its examples by the oldest compiler that Cargo.toml names, which Debian 12 has
 test_oldest() {
     local wanted
@@ -414,6 +453,7 @@ if has cargo "the caller in Rust"; then
     run_tests "Rust, the tests of the crate" cargo test -q --offline --manifest-path "$top/bindings/rust/Cargo.toml"
     test_watched
     test_serde
+    test_rustls
     test_oldest
     cargo build -q --offline --examples --manifest-path "$top/bindings/rust/Cargo.toml"
     examples=$folder/target/debug/examples
@@ -454,7 +494,7 @@ if has python3 "the caller in Python, and wide and deep values"; then
         run_tests "Python, the types of the package" mypy --strict --no-warn-unused-ignores --cache-dir "$folder/mypy" "$top/bindings/python/src/x509_cert"
     env X509_LIBRARY="$folder/libx509.so" PYTHONPATH="$top/bindings/python/src" python3 -B "$gate/try_pkits.py" || failed=1
     if ! python3 -c "import cryptography" 2>/dev/null; then
-        echo "left out, since Python's cryptography isn't installed: CRLs and SCTs beside openssl"
+        echo "left out, since Python's cryptography isn't installed: CRLs and SCTs beside openssl, and a TLS client in Python"
     else
         ! has openssl "CRLs beside openssl" ||
             run_tests "CRLs beside openssl" python3 -B -W ignore "$robustness/compare_revocation.py" "$top/bindings/python/src" "$folder/libx509.so" --cases 200
@@ -464,8 +504,22 @@ if has python3 "the caller in Python, and wide and deep values"; then
         else
             echo "left out, since libcrypto 3 with its headers isn't installed: SCTs beside openssl"
         fi
+        ! has openssl "a TLS client in Python" ||
+            run_tests "Python, a TLS client and its servers" python3 -B "$gate/test_tls.py" "${of_package[@]}" "$top/examples/python/tls_client.py"
     fi
-    run_tests "paths beside trying every path" python3 -B "$robustness/compare_forests.py" "$top/bindings/python/src" "$folder/libx509.so" --forests 100
+    if ! python3 -c "import cryptography" 2>/dev/null; then
+        echo "left out, since Python's cryptography isn't installed: names of the peer beside OpenSSL, Go and cryptography"
+    else
+        has go "names of the peer beside Go" || true
+        run_tests "names of the peer beside OpenSSL, Go and cryptography" \
+            python3 -B -W ignore "$robustness/compare_names.py" "$top/bindings/python/src" "$folder/libx509.so"
+    fi
+    forests=(--forests 100)
+    if python3 -c "import cryptography" 2>/dev/null && has go "paths beside Go"; then
+        forests+=(--go 50)
+    fi
+    run_tests "paths beside trying every path, and beside Go" \
+        python3 -B -W ignore "$robustness/compare_forests.py" "$top/bindings/python/src" "$folder/libx509.so" "${forests[@]}"
     run_tests "policies beside the valid policy tree" python3 -B "$robustness/compare_policies.py" --chains 5000 --library "$folder/libx509.so"
     python3 -B "$robustness/hostile_sizes.py" --rows "$folder"
     wants "C, each allocation refused of wide and deep values" 0 "$folder/calls.txt" "$folder/refuse_memory" "${files[@]}" "$folder/rows" "$folder/answers"

@@ -1,7 +1,8 @@
 #!/usr/bin/env python3
 """Asks `validate_path` and `path_revocation_statuses` of the package for Python about NIST's path validation tests (PKITS, in the public domain), compares
 their answers with what they are to be, and prints for each section how many are right. Signatures are verified by `cryptography`; where that isn't installed,
-all are taken for good, and CRLs aren't asked: a case whose only fault is a CRL's has to be valid then.
+all are taken for good, and CRLs aren't asked: a case whose only fault is a CRL's has to be valid then. So it asks `find_path` over all certificates of the
+case, in whatever order, beside its CRLs: it has to find a path where the case is valid, and none else.
 
 tools/data/pkits.json.gz has the anchor and, of each case, the path (topmost first), its CRLs, all its certificates, whether it is valid (`want` is 0, and else
 the number of what `openssl verify` says of it), and what is asked of policies. A path is good where it is valid and each of its certificates is unrevoked.
@@ -24,10 +25,13 @@ except ImportError:  # signatures are left out then
 from x509_cert import (
     AlgorithmIdentifier,
     CertificatePoliciesOID,
+    NoPath,
     ObjectIdentifier,
     PathFault,
+    Revocation,
     SignatureKind,
     X509Error,
+    find_path,
     load_der_x509_certificate,
     load_der_x509_crl,
     path_revocation_statuses,
@@ -120,6 +124,20 @@ def fault_of(anchor, case):
     return None
 
 
+def fault_found(anchor, case):
+    """Why no path is found over the certificates of the case, or nothing."""
+    candidates = [bytes.fromhex(it) for it in sorted({*case["certs"], *case["path"]})]
+    verifier = verify if hashes else accept_all
+    crls, others = readable(load_der_x509_crl, case["crls"]), readable(load_der_x509_certificate, case["certs"])
+    revocation = Revocation(crls, certificates=others, use_deltas=True) if hashes else None
+    leaf = bytes.fromhex(case["path"][-1])
+    try:
+        find_path([anchor], candidates, leaf, MOMENT, verifier, revocation=revocation, **asked(case["settings"]))
+    except (NoPath, X509Error) as refused:
+        return str(refused)
+    return None
+
+
 def section(case):
     """Such as "4.13" of "4.13.2"."""
     return ".".join(case["number"].split(".")[:2])
@@ -137,6 +155,7 @@ def told(case, fault):
 def ask(cases):
     anchor = load_der_x509_certificate(bytes.fromhex(cases["anchor"]))
     right, every, wrong = collections.Counter(), collections.Counter(), []
+    searched = [told(case, fault_found(anchor, case)) for case in cases["cases"]]
     for case in cases["cases"]:
         fault = told(case, fault_of(anchor, case))
         every[section(case)] += 1
@@ -150,8 +169,11 @@ def ask(cases):
         print(f"PKITS {name}: {right[name]} of {count}")
     for fault in wrong:
         print("failed: PKITS,", fault)
+    for fault in filter(None, searched):
+        print("failed: PKITS, searched for,", fault)
     print(f"{'failed' if wrong else 'passed'}: PKITS, {sum(right.values())} of {sum(every.values())} paths are judged as NIST says")
-    return int(bool(wrong))
+    print(f"{'failed' if any(searched) else 'passed'}: PKITS, {searched.count(None)} of {len(searched)} paths are found or not as NIST says")
+    return int(bool(wrong) or any(searched))
 
 
 def main():

@@ -1,11 +1,12 @@
 /* Finds a path so many times, for counts of instructions: time_finding.py runs it.
  *
- * FOLDER has roots.bin, candidates.bin and leaf.bin, each of certificates one behind the other, with the length of each in four octets in front, the most significant
- * first. WHAT is
+ * FOLDER has roots.bin, candidates.bin and leaf.bin, each of certificates one behind the other, with the length of each in four octets in front, the most
+ * significant first. WHAT is
  *
- *   find     x509_path_find under the roots, over the candidates, to the leaf, from their DER; signatures are left to the caller
- *   openssl  OpenSSL's X509_verify_cert with the roots in a store that is made once; the candidates and the leaf are decoded each time
- *   decode   OpenSSL's d2i_X509 of the candidates and the leaf alone
+ *   find         x509_path_find under the roots, over the candidates, to the leaf, from their DER; signatures are left to the caller
+ *   openssl      OpenSSL's X509_verify_cert with the roots in a store that is made once; the candidates and the leaf are decoded each time
+ *   openssl-all  the same, and the store is made of the roots each time too
+ *   decode       OpenSSL's d2i_X509 of the candidates and the leaf alone
  *
  * usage: finding LIBRARY FOLDER WHAT COUNT, linked with -lcrypto -ldl */
 #include <dlfcn.h>
@@ -93,6 +94,18 @@ static void by_openssl(X509_STORE *store, int is_verified)
     X509_free(last);
 }
 
+/* The roots, decoded. */
+static X509_STORE *made_store(void)
+{
+    X509_STORE *store = X509_STORE_new();
+    for (size_t at = 0; at < roots.count; at++) {
+        X509 *root = decoded(roots.spans[at]);
+        must(X509_STORE_add_cert(store, root) == 1, "OpenSSL takes no root");
+        X509_free(root);
+    }
+    return store;
+}
+
 int main(int argc, char **argv)
 {
     must(argc == 5, "usage: finding LIBRARY FOLDER WHAT COUNT");
@@ -101,17 +114,17 @@ int main(int argc, char **argv)
     read_list(argv[2], "roots.bin", &roots);
     read_list(argv[2], "candidates.bin", &candidates);
     read_list(argv[2], "leaf.bin", &leaf);
-    X509_STORE *store = X509_STORE_new();
-    for (size_t at = 0; at < roots.count; at++) {
-        X509 *root = decoded(roots.spans[at]);
-        must(X509_STORE_add_cert(store, root) == 1, "OpenSSL takes no root");
-        X509_free(root);
-    }
+    X509_STORE *store = made_store();
     for (long count = strtol(argv[4], NULL, 10); count > 0; count--) {
-        if (strcmp(argv[3], "find") == 0)
+        if (strcmp(argv[3], "find") == 0) {
             find(library);
-        else
-            by_openssl(store, strcmp(argv[3], "openssl") == 0);
+            continue;
+        }
+        if (strcmp(argv[3], "openssl-all") == 0) {
+            X509_STORE_free(store);
+            store = made_store();
+        }
+        by_openssl(store, strcmp(argv[3], "decode") != 0);
     }
     X509_STORE_free(store);
     return 0;

@@ -412,7 +412,18 @@ static x509_status ask_walk(asker *by, arguments *with)
     return first;
 }
 
-/* A call that finds a path: its anchor and its candidates are some that are there, and the buffer is unchanged where they don't fit or there is none. */
+/* Whether a path is told that may be: its anchor and its candidates are some that are there; or a fault of the last certificate alone, under no anchor. */
+static int may_be_told(const arguments *with, x509_status status, const x509_found_path *found)
+{
+    if (status == X509_FAULT && found->anchor == with->span_counts[0])
+        return found->count == 0 && found->place == 0 && found->reason >= X509_PATH_ALGORITHM && found->reason <= X509_PATH_VERSION &&
+               found->reason != X509_PATH_SIGNATURE && found->reason != X509_PATH_ISSUER;
+    return found->anchor < with->span_counts[0] && found->count <= with->span_counts[1] && found->count <= with->number[0] && found->place <= found->count &&
+           found->reason <= X509_PATH_VERSION && (status != X509_OK || (found->place == 0 && found->reason == 0)) &&
+           (found->reason != X509_PATH_SIGNATURE || with->bad_count != 0);
+}
+
+/* A call that finds a path: what is told of one may be, and the buffer is unchanged where its candidates don't fit or there is none. */
 static x509_status ask_path(asker *by, arguments *with)
 {
     with->room = (size_t)below(&by->state, 4);
@@ -424,9 +435,7 @@ static x509_status ask_path(asker *by, arguments *with)
         x509_found_path found;
         memcpy(&found, with->found, sizeof found);
         written = found.count <= with->room ? found.count : 0;
-        if (found.anchor >= with->span_counts[0] || found.count > with->span_counts[1] || found.count > with->number[0] || found.place > found.count ||
-            found.reason > X509_PATH_VERSION || (status == X509_OK && (found.place != 0 || found.reason != 0)) ||
-            (found.reason == X509_PATH_SIGNATURE && with->bad_count == 0))
+        if (!may_be_told(with, status, &found))
             wrong(by, "a path that is none", with, status);
     }
     for (size_t at = 0; at < with->room; at++)
@@ -630,6 +639,21 @@ static void take_crls(asker *by, arguments *with)
     with->crls = with->count == 0 && below(&by->state, 2) == 0 ? NULL : given;
 }
 
+/* A certificate; mostly one whose issuer is its subject, so that it leads to itself. */
+static const base *one_to_search(asker *by, x509_certificate *view)
+{
+    const base *one = NULL;
+    int tries = below(&by->state, 4) != 0 ? 64 : 1;
+    do {
+        one = one_of(by, "x509_certificate_check");
+        if (x509_certificate_view(one->bytes, one->len, view) != X509_OK)
+            stop("no certificate");
+        tries--;
+    } while (tries > 0 &&
+             (view->issuer.len != view->subject.len || memcmp(one->bytes + view->issuer.place, one->bytes + view->subject.place, view->issuer.len) != 0));
+    return one;
+}
+
 /* Up to four certificates, one behind the other: the first is mostly the anchor, the others are candidates, as the first may be, and one is the leaf; the moment
  * is mostly the first second of one. Now and then there are links, or a part lies elsewhere. */
 static void take_candidates(asker *by, arguments *with)
@@ -639,10 +663,8 @@ static void take_candidates(asker *by, arguments *with)
     x509_span keys[MOST_SPANS];
     size_t len = 0;
     for (size_t at = 0; at < count; at++) {
-        const base *one = one_of(by, "x509_certificate_check");
         x509_certificate view;
-        if (x509_certificate_view(one->bytes, one->len, &view) != X509_OK)
-            stop("no certificate");
+        const base *one = one_to_search(by, &view);
         memcpy(by->copies[in] + len, one->bytes, one->len);
         by->spans[0][at] = by->spans[1][at] = (x509_span){len, one->len};
         keys[at] = (x509_span){len + view.subject_public_key_info.place, view.subject_public_key_info.len};
