@@ -344,20 +344,10 @@ fn a_fault_of_the_certificate_itself() {
     let candidates = [&it.upper, &it.lower];
     let anchors = [read(&it.root)];
     let found = find_path(&anchors, &candidates, &it.server, &asked, &limits, &is_by);
-    // a library that looks for a path first tells the one that came furthest
-    let of_path = FindError::Refused {
-        anchor: 0,
-        candidates: vec![0, 1],
-        fault: PathFault {
-            place: 2,
-            reason: FaultReason::Purpose,
-        },
-    };
     let error = found.expect_err("no path");
-    assert!(
-        [FindError::Leaf(FaultReason::Purpose), of_path].contains(&error),
-        "{error:?}"
-    );
+    assert_eq!(error, FindError::Leaf(FaultReason::Purpose));
+    let none = find_path(&[], &candidates, &it.server, &asked, &limits, &is_by);
+    assert_eq!(none.expect_err("no path"), error);
 }
 
 /// A CRL of that name by the key of that number, with these serial numbers.
