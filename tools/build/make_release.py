@@ -134,23 +134,33 @@ def glibc_of(*files):
     return ".".join(map(str, max(found)))
 
 
+def stripped_library(archive, shared):
+    """Both without what only a debugger asks for."""
+    run([*STRIP, "--strip-debug", "--enable-deterministic-archives", archive], None)
+    run([*STRIP, "--strip-unneeded", shared], None)
+    return archive, shared
+
+
+def stripped_programs(programs, folder):
+    """Copies of the programs in a folder, without their symbols' names."""
+    made = []
+    for it in programs:
+        made.append(folder / it.name)
+        run([*STRIP, "-o", made[-1], it], None)
+    return made
+
+
 def build_library(clone, folder):
     """Puts libx509.a and the shared library into a folder, without what only a debugger asks for."""
     it = version(clone)
     run([SCRIPTS / "link_c_library.sh", folder], clone)
     run([SCRIPTS / "link_shared.sh", folder, it], clone)
-    run([*STRIP, "--strip-debug", "--enable-deterministic-archives", folder / "libx509.a"], clone)
-    run([*STRIP, "--strip-unneeded", folder / f"libx509.so.{it}"], clone)
-    return folder / "libx509.a", folder / f"libx509.so.{it}"
+    return stripped_library(folder / "libx509.a", folder / f"libx509.so.{it}")
 
 
 def build_programs(clone, folder):
     """Copies the programs that `rt ci` has left into a folder, without their symbols' names."""
-    made = []
-    for name in PROGRAMS:
-        made.append(folder / name)
-        run([*STRIP, "-o", made[-1], f"crates/{name}/out/{name}"], clone)
-    return made
+    return stripped_programs([clone / "crates" / name / "out" / name for name in PROGRAMS], folder)
 
 
 def linked_libraries(clone):

@@ -506,7 +506,8 @@ def try_over(library, folder):
     built, out = folder / "built", folder / "tried"
     built.mkdir()
     programs = [it for it in (TOP / "crates" / name / "out" / name for name in PROGRAMS) if it.is_file()]
-    load_maker().write_tried(out, merged(library, built), programs, built)
+    maker = load_maker()
+    maker.write_tried(out, maker.stripped_library(*merged(library, built)), maker.stripped_programs(programs, built), built)
     test = Test(out, folder, [it.name for it in programs])
     prefix = try_archive(test)
     if list(out.glob("*.crate")):
