@@ -3,8 +3,9 @@
 # extensions and on paths, under valgrind and with sanitizers where these are there. What isn't installed is left out, with a line that says so. What
 # they print is compared with what Python's `cryptography` says (examples/data/make.py), and with what tools/robustness/hostile_payloads.py and
 # examples/data/make_path.py state by hand. Before that it checks the rows, the snippets of README.md, the names in docs/PROMISES.md and
-# docs/OPERATIONS.md, docs/RULES.md, the checks of types, that each wrong body can be applied, the version and the C interface; and it asks each call
-# of the header about spoilt inputs, and whether each of its answers, and each of those of the crates' own calls, is seen by a test.
+# docs/OPERATIONS.md, the files that the pages name, docs/RULES.md, the checks of types, that each wrong body can be applied, the version and the C
+# interface; and it asks each call of the header about spoilt inputs, and whether each of its answers, and each of those of the crates' own calls, is
+# seen by a test.
 set -eu
 top=$(cd "$(dirname "${BASH_SOURCE[0]}")/../.." && pwd)
 gate=$top/tools/gate
@@ -179,6 +180,7 @@ if has python3 \
     python3 -B "$gate/check_readme_snippets.py" || failed=1
     python3 -B "$gate/check_promises.py" || failed=1
     python3 -B "$gate/check_operations.py" || failed=1
+    python3 -B "$gate/check_recipes.py" || failed=1
     python3 -B "$gate/check_type_checks.py" || failed=1
     python3 -B "$gate/check_seen.py" || failed=1
     python3 -B "$gate/list_rules.py" --check || failed=1
