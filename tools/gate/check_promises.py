@@ -1,7 +1,8 @@
 #!/usr/bin/env python3
-"""Looks whether each call, clause, law, type and definition that docs/PROMISES.md names stands in the sources. An entry names them in front of its first colon.
+"""Looks whether each call, clause, law, type and definition that the part of docs/PROMISES.md that is written by hand names stands in the sources. An entry names
+its crate first, and the others in front of its first colon. What follows that part list_promises.py makes of the sources.
 
-It has to stand in the crate of its section, in a crate that the entry names there, or in one that these stand on. Each section is that of a crate.
+It has to stand in the crate of the entry, in another crate that it names there, or in one that these stand on.
 """
 import argparse
 import pathlib
@@ -11,6 +12,7 @@ import sys
 sys.path.insert(0, str(pathlib.Path(__file__).resolve().parents[1]))
 from common.crates import TOP, crates_below, path_of
 
+PAGE, MADE = "docs/PROMISES.md", "<!-- tools/gate/list_promises.py makes"
 WORDS = r"\bfn|\bensures\*?|\bghost|\bconst|\btype|\bstruct|\benum|\btrait|\bmod|\bfor|\bas"
 NAMED = re.compile(rf"(?:{WORDS}) +(\w+)|\bimpl\b[^{{;]*?\b(\w+)(?:<[^{{;]*?>)? for\b")
 
@@ -30,10 +32,12 @@ def names_of(crate):
 
 def entries():
     """The crate of each entry, and the names in front of its colon."""
-    text = (TOP / "docs" / "PROMISES.md").read_text(encoding="utf-8")
-    for section in re.finditer(r"^## `(\w+)`\n(.*?)(?=^## |\Z)", text, re.M | re.S):
-        for entry in re.findall(r"^- (.*?)(?=^- |^$|\Z)", section[2], re.M | re.S):
-            yield section[1], re.findall(r"`([^`]+)`", entry.partition(": ")[0])
+    front, mark, _ = (TOP / PAGE).read_text(encoding="utf-8").partition(MADE)
+    if not mark:
+        raise ValueError(f"where does {PAGE} have what list_promises.py makes?")
+    for entry in re.findall(r"^- (`x509_.*?)(?=^- |^$|\Z)", front, re.M | re.S):
+        crate, *names = re.findall(r"`([^`]+)`", entry.partition(": ")[0])
+        yield crate, names
 
 
 def stands(word, below, names):
@@ -57,7 +61,7 @@ def main():
         asked = [it for it in words if it not in named and it != "laws"]
         count += len(asked)
         missing += [f"{crate}: {word}" for word in asked if not stands(word, below, names)]
-    print("\n".join(f"stands nowhere: {it}" for it in missing) or f"{count} calls, clauses and laws of docs/PROMISES.md stand in the sources")
+    print("\n".join(f"stands nowhere: {it}" for it in missing) or f"{count} calls, clauses and laws that {PAGE} has by hand stand in the sources")
     return 1 if missing or not count else 0
 
 

@@ -186,6 +186,8 @@ if has python3 \
     python3 -B "$gate/list_rules.py" --check || failed=1
     python3 -B "$gate/list_web_rules.py" --check || failed=1
     python3 -B "$gate/list_types.py" --check || failed=1
+    python3 -B "$gate/list_promises.py" --check || failed=1
+    python3 -B "$gate/list_definitions.py" --check || failed=1
     python3 -B "$gate/wrong_bodies.py" --check || failed=1
     python3 -B "$gate/check_version.py" || failed=1
     python3 -B "$gate/test_first_command.py" real || failed=1
