@@ -7,7 +7,7 @@ and objects inside of other bytes, as in PKCS #7, in keystores and in what was c
 
 It reads no DER but the length in front of an object inside of other bytes, where the object has to end. Whether something is an object at all, openssl
 and x509_show say. It writes each into FOLDER as DIGEST.der, by its SHA-256, and their list as `index.tsv`: the digest, the source that was named, the file
-in it, and how it stood there. Packages for it come by `apt-get download NAME` and `apt-get source --download-only --tar-only NAME`; docs/BESIDE_OPENSSL.md says
+in it, and how it stood there. Packages for it come by `apt-get download NAME` and `apt-get source --download-only --tar-only NAME`; docs/PERFORMANCE.md says
 which were taken.
 """
 import argparse
