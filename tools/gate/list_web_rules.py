@@ -17,9 +17,9 @@ HEAD = """# The rules of `x509_lint_web`, with sections and days from memory of 
 
 `tools/gate/list_web_rules.py` makes this page of the rules in `crates/x509_lint_web/src/rule`. They are those of the Baseline Requirements for TLS server
 certificates (TLS BR) of the CA/Browser Forum, of version 2.0 and later, that a certificate alone shows. Whether a rule is broken is a definition of
-`crates/x509_lint_web/specs`, in the file of its group, and `lint_web` is proved to find exactly the rules that are in force at a moment and broken. A rule
+`crates/x509_lint_web/specs`, in the file of its group, and `lint_web` is proved to find exactly the rules that are in force at a validation time and broken. A rule
 without a date was in force from the beginning.
-`x509_linter --web MOMENT` prints a line for each rule that a certificate breaks, of those in force at the moment, as `2026-03-15T00:00:00Z`.
+`x509_linter --web MOMENT` prints a line for each rule that a certificate breaks, of those in force at that validation time, as `2026-03-15T00:00:00Z`.
 
 - A certificate of a *TLS server* has no basic constraints, or ones that are read and don't set cA, and no EKU, or one that is read and has serverAuth.
 - One of an *authority that may stand above TLS servers* has basic constraints that are read and set cA, and such an EKU or none.
