@@ -1,6 +1,7 @@
 #!/usr/bin/env python3
-"""Makes the end of docs/DEFINITIONS.md: by crate, lowest first, each file of specs with the comment that it begins with, which has the grammar of a type in one
-line, or says what the definitions are of. Left out are files of laws, of equalities and of how types lie in the toolchain's logic.
+"""Makes the end of docs/DEFINITIONS.md: by crate, lowest first, each file of specs whose comment in front names a section of a standard, with that comment: the
+grammar of a type in one line, or what the definitions are of. Of the others the names alone; left out are files of laws, of equalities and of how types lie in the
+toolchain's logic.
 
 With `--check` it fails where the page has another text, or a file begins with no comment.
 """
@@ -15,6 +16,7 @@ from common.pages import listed, put
 
 PAGE = "docs/DEFINITIONS.md"
 GRAMMAR = re.compile(r"[A-Z]\w+(?: and \w+)*: ")
+STANDARD = re.compile(r"RFC \d|X\.\d{3}|ISO \d|TLS BR|Baseline Requirements|\d\.\d\.\d")
 LEFT_OUT = re.compile(r"Lib|\w*(?:Laws|Equality|Rows)")
 
 
@@ -31,15 +33,17 @@ def begins(file):
 def made():
     lines, count = [], 0
     for crate in crates_below():
-        files = sorted(it for it in (TOP / "crates" / crate / "specs").rglob("*.antt") if not LEFT_OUT.fullmatch(it.stem))
+        specs = TOP / "crates" / crate / "specs"
+        files = {it.relative_to(specs).as_posix(): begins(it) for it in sorted(specs.rglob("*.antt")) if not LEFT_OUT.fullmatch(it.stem)}
+        others = [name for name, text in files.items() if not STANDARD.search(text)]
+        if "." in files.values():
+            raise ValueError(f"a file of {crate} begins with no comment")
         if files:
             lines += ["", f"### `{crate}`", ""]
-        for file in files:
-            count += 1
-            text = begins(file)
-            if text == ".":
-                raise ValueError(f"{file} begins with no comment")
-            lines += listed(f"`{file.relative_to(TOP / 'crates' / crate / 'specs').as_posix()}`: {text}")
+        for name, text in files.items():
+            lines += [] if name in others else listed(f"`{name}`: {text}")
+        lines += listed(f"of no section: {', '.join(f'`{name}`' for name in others)}") if others else []
+        count += len(files)
     return lines, f"{count} files of definitions"
 
 
