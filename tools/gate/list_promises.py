@@ -61,7 +61,7 @@ def made():
                 functions.append(line_of(name, it, crate) + ("" if crate == IN_THE_HEADER else f": {said(it.docs)}."))
         if not types and not functions:
             continue
-        edits = len(list((TOP / "crates" / crate).glob("wrong-bodies/*.edit"))) + len(list((TOP / "crates" / crate).glob("must-fail/*.edit")))
+        edits = sum(1 for _ in (TOP / "crates" / crate).glob("*/*.edit"))
         lines += ["", f"### `{crate}`, {edits} wrong bodies", ""]
         for of, methods in types.items():
             lines += listed(f"`{of}`: {', '.join(methods)}")
