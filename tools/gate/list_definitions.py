@@ -12,7 +12,7 @@ import sys
 sys.path.insert(0, str(pathlib.Path(__file__).resolve().parents[1]))
 sys.dont_write_bytecode = True
 from common.crates import TOP, crates_below
-from common.pages import listed, put
+from common.indexes import listed, put
 
 PAGE = "docs/DEFINITIONS.md"
 GRAMMAR = re.compile(r"[A-Z]\w+(?: and \w+)*: ")

@@ -11,7 +11,7 @@ import sys
 sys.path.insert(0, str(pathlib.Path(__file__).resolve().parents[1]))
 sys.dont_write_bytecode = True
 from common.crates import TOP, crates_below
-from common.pages import listed, put
+from common.indexes import listed, put
 from common.rattle import calls, source_of
 
 PAGE = "docs/PROMISES.md"
