@@ -757,6 +757,10 @@ x509_status x509_path_check(const uint8_t *anchor, size_t anchor_len, const uint
 #define X509_PATH_UNCHAINED 8
 /* Certificates of version 1, which have no extensions, are authorities (6.1.4 (k)), which the caller then knows of those given. */
 #define X509_PATH_VERSION_1_AUTHORITIES 16
+/* Names of servers in the last certificate's common names are asked under name constraints, as those of its SAN are (4.2.1.10), which RFC 5280 doesn't have:
+ * a host, a wildcard of hosts or an IP address that a common name is, each where the SAN has no dNSName, or no iPAddress (RFC 6125 6.4.4). It is for callers
+ * that take a peer by its common name. */
+#define X509_PATH_CONSTRAIN_COMMON_NAMES 32
 
 /* The purposes of RFC 5280 (4.2.1.12). */
 #define X509_PURPOSE_SERVER_AUTH 1
@@ -858,10 +862,11 @@ typedef struct {
 
 /* Finds a path from one of the anchors over candidates to a certificate, the leaf: one that x509_path_validate accepts under the anchor's certificate, of any
  * of the candidates, in any number and order, none of them twice nor the leaf itself, and at most `max_depth` of them (8 do for most). No valid path has fewer
- * certificates. BUT NOT THE SIGNATURES: any bits are taken for the signature of a certificate under the key above it, unless the two are listed in `bad`. So
- * the caller verifies the signatures of the path that is found, as x509_path_check says. Where one doesn't hold, the caller adds the certificate and the key to
- * `bad`, and asks again; each round adds one that wasn't there, so that it ends, with a path whose signatures hold, or with another answer. Without that X509_OK
- * gives no security. Nothing is kept between the calls.
+ * certificates. Of candidates with one subject the one whose SubjectKeyIdentifier the certificate below names in its AuthorityKeyIdentifier is tried first,
+ * and then the others, from the latest notBefore on. BUT NOT THE SIGNATURES: any bits are taken for the signature of a certificate under the key above it,
+ * unless the two are listed in `bad`. So the caller verifies the signatures of the path that is found, as x509_path_check says. Where one doesn't hold, the
+ * caller adds the certificate and the key to `bad`, and asks again; each round adds one that wasn't there, so that it ends, with a path whose signatures hold,
+ * or with another answer. Without that X509_OK gives no security. Nothing is kept between the calls.
  *
  * All certificates, and the keys of `bad`, are parts of bytes[0..len). What is trusted of an anchor x509_path_validate says, and `name_constraints`,
  * `policies`, `settings` and `settings_size` are as there. Candidates that are no certificates are passed over. The indices of the candidates in the path,
@@ -877,8 +882,8 @@ typedef struct {
  * no candidates lead by their names from an anchor to the leaf: an issuer isn't known. Else X509_FAULT: there is no such path, and what is told is one that
  * leads there by its names, with a fault that it has; of those it is one that has the fewest certificates left from the fault on. Its fault is the first at the
  * lowest place that has one other than a signature's, or X509_PATH_SIGNATURE of a certificate that is listed in `bad` with the key above it. In the place of
- * the last three answers X509_LIMIT, where more than 200,000 candidates would be put above others or more than 1,000 paths validated: whether there is a path
- * isn't known. `*found` and path[0..room) are unchanged unless the answer is X509_OK or X509_FAULT.
+ * the last three answers X509_LIMIT, only where trying all paths puts more than 200,000 candidates above others or validates more than 1,000 paths: whether
+ * there is a path isn't known. `*found` and path[0..room) are unchanged unless the answer is X509_OK or X509_FAULT.
  * Answers X509_OK, X509_MEMORY, X509_OVERLENGTH, X509_MALFORMED, X509_FAILED, X509_VALUE, X509_ABSENT, X509_FAULT, X509_LIMIT. */
 x509_status x509_path_find(const uint8_t *bytes, size_t len, const x509_span *anchors, size_t anchor_count, const x509_span *candidates, size_t candidate_count,
                            const x509_span *leaf, const x509_bad_link *bad, size_t bad_count, const uint8_t *name_constraints, size_t name_constraints_len,

@@ -367,7 +367,7 @@ static void settings_of_paths(void)
 static void uses_that_are_none(void)
 {
     static const x509_path_settings none[] = {
-        {.moment = 1767323045, .flags = 32},       {.moment = 1767323045, .key_usage = 512},   {.moment = 1767323045, .purposes = 64},
+        {.moment = 1767323045, .flags = 64},       {.moment = 1767323045, .key_usage = 512},   {.moment = 1767323045, .purposes = 64},
         {.moment = 1767323045, .purpose_len = 65}, {.moment = 1767323045, .flags = 1ULL << 63},
     };
     x509_path_answer answer = UNTOUCHED;
@@ -397,7 +397,7 @@ static void policies_of_paths(void)
     memset(out, 7, sizeof out);
     WANT(x509_path_validate(certificate, len, certificate, len, &len, 1, NULL, 0, NULL, 0, &asked, sizeof asked, out, 1, &answer) == X509_OK);
     WANT(answer.policies_len == 2 && out[0] == 7);
-    for (asked.flags = 0; asked.flags < 32; asked.flags++) {
+    for (asked.flags = 0; asked.flags < 64; asked.flags++) {
         const int is_asked = (asked.flags & X509_PATH_EXPLICIT_POLICY) != 0;
         answer = UNTOUCHED;
         const x509_status status = validate(&asked, sizeof asked, NULL, 0, &answer);
@@ -530,7 +530,7 @@ static void found_paths(void)
     const x509_span root = {0, BY_HAND_LEN}, leaf = {3 * BY_HAND_LEN, BY_HAND_LEN}, outside = {len, 1}, none = {0, 0};
     const x509_span authorities[] = {none, {BY_HAND_LEN, BY_HAND_LEN}, {2 * BY_HAND_LEN, BY_HAND_LEN}, {BY_HAND_LEN, BY_HAND_LEN}};
     const x509_span anchors[] = {authorities[1], root, root};
-    const x509_path_settings now = {.moment = 1767323045}, before = {.moment = 0, .flags = X509_PATH_EXPLICIT_POLICY}, unknown = {.flags = 32};
+    const x509_path_settings now = {.moment = 1767323045}, before = {.moment = 0, .flags = X509_PATH_EXPLICIT_POLICY}, unknown = {.flags = 64};
     x509_found_path found = UNFOUND_PATH;
     size_t path[2] = {7, 7};
     WANT(len == 4 * BY_HAND_LEN);

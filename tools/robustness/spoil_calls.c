@@ -597,7 +597,7 @@ static void take_moment(asker *by, int path)
     x509_certificate view;
     if (input < 0 || x509_certificate_view(by->copies[path], by->lens[0], &view) != X509_OK)
         return;
-    const x509_path_settings settings = {.moment = view.not_before, .flags = below(&by->state, 4) != 0 ? 0 : below(&by->state, 32),
+    const x509_path_settings settings = {.moment = view.not_before, .flags = below(&by->state, 4) != 0 ? 0 : below(&by->state, 64),
                                               .purposes = below(&by->state, 4) != 0 ? 0 : below(&by->state, 64)};
     copy_in(by, input, (const uint8_t *)&settings, sizeof settings);
 }
@@ -670,7 +670,7 @@ static void take_candidates(asker *by, arguments *with)
         keys[at] = (x509_span){len + view.subject_public_key_info.place, view.subject_public_key_info.len};
         len += one->len;
         if (at == 0 && below(&by->state, 8) != 0) {
-            const x509_path_settings asked = {.moment = view.not_before, .flags = below(&by->state, 4) != 0 ? 0 : below(&by->state, 32),
+            const x509_path_settings asked = {.moment = view.not_before, .flags = below(&by->state, 4) != 0 ? 0 : below(&by->state, 64),
                                               .purposes = below(&by->state, 4) != 0 ? 0 : below(&by->state, 64)};
             copy_in(by, settings, (const uint8_t *)&asked, sizeof asked);
         }

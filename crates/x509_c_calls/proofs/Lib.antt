@@ -56,4 +56,5 @@ pub mod PeerAnswers
 pub mod LeafParts
 pub mod ChainWalks
 pub mod FoundPlaces
+pub mod SearchLimits
 pub mod BadLinks

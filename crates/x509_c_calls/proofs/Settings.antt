@@ -29,13 +29,21 @@ flag_bit zero less = refl
 flag_bit (suc zero) less = refl
 flag_bit (suc (suc n)) less = absurd (omega (arith, less))
 
--- a number below 32 is the sum of its bits
-pub five_flags : (n : ℕ) → n < 32
-    → flag (n % 2 == 1) + (2 * flag (n / 2 % 2 == 1) + (4 * flag (n / 4 % 2 == 1) + (8 * flag (n / 8 % 2 == 1) + 16 * flag (n / 16 == 1)))) ≡ n
-five_flags n less =
+-- a number below 64 is the sum of its bits
+pub six_flags : (n : ℕ) → n < 64
+    → flag (n % 2 == 1) + (2 * flag (n / 2 % 2 == 1) + (4 * flag (n / 4 % 2 == 1)
+    + (8 * flag (n / 8 % 2 == 1) + (16 * flag (n / 16 % 2 == 1) + 32 * flag (n / 32 == 1))))) ≡ n
+six_flags n less =
     let second : n / 4 ≡ n / 2 / 2 = omega arith in
     let third : n / 8 ≡ n / 4 / 2 = omega arith in
     let fourth : n / 16 ≡ n / 8 / 2 = omega arith in
-    let last : n / 16 < 2 = omega (arith, less) in
-    rw (flag_bit (n % 2) (omega arith), flag_bit (n / 2 % 2) (omega arith), flag_bit (n / 4 % 2) (omega arith), flag_bit (n / 8 % 2) (omega arith), flag_bit (n / 16) last)
-    (omega (arith, second, third, fourth))
+    let fifth : n / 32 ≡ n / 16 / 2 = omega arith in
+    let last : n / 32 < 2 = omega (arith, less) in
+    rw (
+      flag_bit (n % 2) (omega arith),
+      flag_bit (n / 2 % 2) (omega arith),
+      flag_bit (n / 4 % 2) (omega arith),
+      flag_bit (n / 8 % 2) (omega arith),
+      flag_bit (n / 16 % 2) (omega arith),
+      flag_bit (n / 32) last,
+    ) (omega (arith, second, third, fourth, fifth))

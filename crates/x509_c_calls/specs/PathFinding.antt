@@ -1,7 +1,7 @@
 -- What a call leaves that finds a path over candidates (RFC 5280 6.1), where it is listed which signatures don't hold.
 use Rattle.std.specs.Cmp.Lexicographic.{pointwise}
 use Rattle.std.specs.List.{All, AllZip, list_any, position_or_len}
-use Rattle.std.specs.Prelude.{◌≡◌, ◌<◌, ◌⊎◌, ◌↔◌, ◌&&◌, ◌++◌, ◌∷◌, [], ℕ, Bool, true, false, not, nat_eq, List, length, map, Contains, Option, Some, None, Ok, Err}
+use Rattle.std.specs.Prelude.{◌≡◌, ◌<◌, ◌⊎◌, ◌↔◌, ◌&&◌, ◌++◌, ◌∷◌, [], ℕ, Bool, true, false, not, nat_eq, List, length, map, Contains, Option, Some, None, Result, Ok, Err}
 use Rattle.x509_base.specs.AlgorithmIdentifier.{algorithm_identifier}
 use Rattle.x509_base.specs.SubjectPublicKeyInfo.{subject_public_key_info}
 use Rattle.x509_base.specs.declared.subject_public_key_info.SubjectPublicKeyInfo.{SubjectPublicKeyInfo}
@@ -36,10 +36,16 @@ use Rattle.x509_validation.specs.declared.trusted.Trusted.{Trusted}
 use Rattle.x509_validation.specs.declared.validation_fault.ValidationFault.{ValidationFault}
 use Rattle.x509_validation.specs.declared.validation_fault.ValidationFault.TheVariants.{At}
 use Rattle.x509_validation.specs.declared.validation_fault.ValidationReason.{ValidationReason}
+use Rattle.x509_verify.specs.Effort.{KeepsLimits}
 use Rattle.x509_verify.specs.Found.{Answers, Wanted, octets}
+use Rattle.x509_verify.specs.Given.{candidates_of, trusted_of}
 use Rattle.x509_verify.specs.Named.{IsDecodable}
+use Rattle.x509_verify.specs.declared.anchors.Anchors.{Anchors}
+use Rattle.x509_verify.specs.declared.find_error.FindError.{FindError}
 use Rattle.x509_verify.specs.declared.find_error.FindError.TheVariants.{Leaf, Limit, UnknownIssuer, Refused}
 use Rattle.x509_verify.specs.declared.found.Found.{Found}
+use Rattle.x509_verify.specs.declared.limits.SearchLimits.{SearchLimits}
+use Rattle.x509_verify.specs.declared.pool.Pool.{Pool}
 use Rattle.x509_verify.specs.declared.refusal.Refusal.{Refusal}
 
 -- ---- what is given
@@ -177,18 +183,33 @@ pub record IsLeafTold (given : List Trusted) (told : ValidationReason) (was is :
   pub place : is.found.place ≡ 0
   pub reason : is.found.reason ≡ validation_code told
 
+-- ---- how much is searched
+
+-- the limits of a search: 200,000 steps and 1,000 paths; the signatures ask nothing of a verifier, so of them there may be any number
+abbrev pub search_limits : ℕ → SearchLimits
+search_limits max_depth = record { max_depth = max_depth; max_steps = 200000; max_paths = 1000; max_signatures = 4294967295 }
+
+-- what is answered keeps these limits, over what is searched
+pub record KeepsSearch (wanted : Wanted) (result : Result Found FindError) : Type 0 where
+  pub anchors : Anchors
+  pub pool : Pool
+  pub trusted : trusted_of anchors ≡ wanted.trusted
+  pub candidates : candidates_of pool ≡ wanted.candidates
+  pub keeps : KeepsLimits anchors pool (search_limits wanted.max_depth) wanted.leaf result
+
 -- What is left of a search. Done: a path is found, and told. Faulty: there is none, and what is wrong with the leaf is told, or else a path that isn't valid,
--- with its fault. Absent: there isn't even one by the names. Limit: more would be tried than is allowed, and nothing is said. Else memory was refused.
+-- with its fault. Absent: there isn't even one by the names. Limit: to try all takes more than is allowed, and nothing is said. Else memory was refused.
 unfoldable pub TellsPath : List Trusted → List (List ℕ) → Accepting → Wanted → LeftPath → LeftPath → Status → Type 0
 TellsPath given candidates accepts wanted was is statuses.Done =
-    (found : Found) × Answers accepts wanted (Ok found) × IsPathTold given candidates wanted.leaf found.trusted (octets found.path.items) was is
-    × (is.found.place ≡ 0) × (is.found.reason ≡ 0)
+    (found : Found) × Answers accepts wanted (Ok found) × KeepsSearch wanted (Ok found)
+    × IsPathTold given candidates wanted.leaf found.trusted (octets found.path.items) was is × (is.found.place ≡ 0) × (is.found.reason ≡ 0)
 TellsPath given candidates accepts wanted was is statuses.Faulty =
     ((reason : ValidationReason) × Answers accepts wanted (Err (Leaf reason)) × IsLeafTold given reason was is)
-    ⊎ ((refusal : Refusal) × Answers accepts wanted (Err (Refused refusal)) × IsPathTold given candidates wanted.leaf refusal.trusted (octets refusal.path.items) was is
+    ⊎ ((refusal : Refusal) × Answers accepts wanted (Err (Refused refusal)) × KeepsSearch wanted (Err (Refused refusal))
+    × IsPathTold given candidates wanted.leaf refusal.trusted (octets refusal.path.items) was is
     × (is.found.place ≡ place_of refusal.fault) × (is.found.reason ≡ reason_of refusal.fault))
-TellsPath given candidates accepts wanted was is statuses.Absent = Answers accepts wanted (Err UnknownIssuer) × (is ≡ was)
-TellsPath given candidates accepts wanted was is statuses.Limit = Answers accepts wanted (Err Limit) × (is ≡ was)
+TellsPath given candidates accepts wanted was is statuses.Absent = Answers accepts wanted (Err UnknownIssuer) × KeepsSearch wanted (Err UnknownIssuer) × (is ≡ was)
+TellsPath given candidates accepts wanted was is statuses.Limit = Answers accepts wanted (Err Limit) × KeepsSearch wanted (Err Limit) × (is ≡ was)
 TellsPath given candidates accepts wanted was is (statuses.Refused e) = (e ≡ kinds.Memory) × (is ≡ was)
 TellsPath given candidates accepts wanted was is statuses.NoRoom = ⊥
 TellsPath given candidates accepts wanted was is statuses.Repeated = ⊥

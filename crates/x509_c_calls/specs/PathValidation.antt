@@ -108,7 +108,7 @@ pub record AreWhole (octets : List ℕ) : Type 0 where
 abbrev pub flags_of : AskedSettings → ℕ
 flags_of asked =
     flag asked.explicit_policy + (2 * flag asked.inhibit_policy_mapping + (4 * flag asked.inhibit_any_policy
-    + (8 * flag asked.is_unchained + 16 * flag asked.allows_version_1)))
+    + (8 * flag asked.is_unchained + (16 * flag asked.allows_version_1 + 32 * flag asked.constrain_common_names))))
 
 -- what the settings ask for, apart from another purpose
 pub record HasSettings (octets : List ℕ) (asked : AskedSettings) : Type 0 where
@@ -128,7 +128,7 @@ abbrev pub HasNoSettings : List ℕ → Type 0
 HasNoSettings octets =
     (AreWhole octets → ⊥)
     ⊎ ((unix_seconds last_date_time < seconds_in octets)
-    ⊎ ((32 ≤ flags_in octets) ⊎ ((512 ≤ usage_in octets) ⊎ ((64 ≤ purposes_in octets) ⊎ LacksOwnPurpose octets))))
+    ⊎ ((64 ≤ flags_in octets) ⊎ ((512 ≤ usage_in octets) ⊎ ((64 ≤ purposes_in octets) ⊎ LacksOwnPurpose octets))))
 
 -- serverAuth, clientAuth, codeSigning, emailProtection, timeStamping and OCSPSigning (4.2.1.12)
 abbrev pub known_purposes : List (List ℕ)
@@ -164,6 +164,7 @@ bare_settings asked = record {
   is_chained = not asked.is_unchained;
   key_usage = asked.key_usage;
   allows_version_1 = asked.allows_version_1;
+  constrain_common_names = asked.constrain_common_names;
 }
 
 -- no octets are no constraints

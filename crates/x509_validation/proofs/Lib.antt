@@ -27,3 +27,4 @@ pub mod Readables
 pub mod EmptyNames
 pub mod KeyAnswers
 pub mod Lasts
+pub mod CommonNames

@@ -78,7 +78,12 @@ abbrev pub purposes_of : PathSettings → Option (List (List ℕ))
 purposes_of settings = option_map (λ purposes. octets_of purposes.now) settings.purposes
 
 abbrev pub uses_of : PathSettings → Uses
-uses_of settings = record { is_chained = settings.is_chained; key_usage = settings.key_usage; allows_version_1 = settings.allows_version_1 }
+uses_of settings = record {
+  is_chained = settings.is_chained;
+  key_usage = settings.key_usage;
+  allows_version_1 = settings.allows_version_1;
+  constrain_common_names = settings.constrain_common_names;
+}
 
 pub record LendsInputs (trusted : Trusted) (settings : PathSettings) (inputs : Inputs) : Type 0 where
   pub trust : LendsTrust trusted inputs.trust

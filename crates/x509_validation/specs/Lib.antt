@@ -4,6 +4,7 @@ pub mod Inputs
 pub mod Policies
 pub mod Trusts
 pub mod Keys
+pub mod CommonNames
 pub mod Validation
 pub mod ValidationFault
 pub mod Steps

@@ -28,6 +28,7 @@ use Rattle.x509_ext.specs.declared.pkix.name_constraints.NameConstraints.{NameCo
 use Rattle.x509_match.specs.Matching.{NamesMatch}
 use Rattle.x509_path.specs.Certificates as certificates
 use Rattle.x509_path.specs.Certificates.{Accepting, Certificate, HasPathLen, HasPayload, extensions_of}
+use Rattle.x509_validation.specs.CommonNames.{IsCommonNameAllowed}
 use Rattle.x509_validation.specs.Inputs.{Inputs, SpellsOption}
 use Rattle.x509_validation.specs.Keys.{key_behind, parameters_of}
 use Rattle.x509_path.specs.Lent.{LendsAnchor}
@@ -141,6 +142,21 @@ AreNamesAllowed inputs before c = (constraints : NameConstraints) → Apply inpu
 abbrev pub IsAsked : Bool → Certificate → Type 0
 IsAsked is_last c = (is_last ≡ true) ⊎ (IsSelfIssued c → ⊥)
 
+-- it is asked for them, and they aren't allowed
+abbrev pub HasOtherNames : Inputs → List Certificate → Bool → Certificate → Type 0
+HasOtherNames inputs before is_last c = IsAsked is_last c × (AreNamesAllowed inputs before c → ⊥)
+
+-- the names of servers in its common names are allowed by all constraints that apply behind the others
+abbrev pub AreCommonNamesAllowed : Inputs → List Certificate → Certificate → Type 0
+AreCommonNamesAllowed inputs before c =
+    (constraints : NameConstraints) → Apply inputs before constraints → (names : Option SubjectAltName) → HasAlternativeNames c names
+    → All (λ rdn. All (λ a. IsCommonNameAllowed constraints names a) rdn) c.tbs_certificate.subject
+
+-- it is the last one, the caller asks for them, and they aren't allowed
+abbrev pub HasOtherCommonNames : Inputs → List Certificate → Bool → Certificate → Type 0
+HasOtherCommonNames inputs before is_last c =
+    (inputs.uses.constrain_common_names ≡ true) × ((is_last ≡ true) × (AreCommonNamesAllowed inputs before c → ⊥))
+
 -- it has constraints that can't be used
 abbrev pub HasUnusable : Certificate → Type 0
 HasUnusable c = (constraints : NameConstraints) × HasConstraints c constraints × (IsUsable constraints → ⊥)
@@ -220,7 +236,8 @@ Breaks accepts inputs standing bytes c KeyUsage = (standing.is_last ≡ false) �
 Breaks accepts inputs standing bytes c PathLen =
     (standing.is_last ≡ false) × (IsOver inputs.trust.max_path_length (standing.before ++ c ∷ []) ⊎ IsTooLong (standing.before ++ c ∷ []))
 -- 6.1.3 (b), (c)
-Breaks accepts inputs standing bytes c Names = IsAsked standing.is_last c × (AreNamesAllowed inputs standing.before c → ⊥)
+Breaks accepts inputs standing bytes c Names =
+    HasOtherNames inputs standing.before standing.is_last c ⊎ HasOtherCommonNames inputs standing.before standing.is_last c
 -- 6.1.4 (g)
 Breaks accepts inputs standing bytes c Constraints = (standing.is_last ≡ false) × HasUnusable c
 -- 4.1.2.9

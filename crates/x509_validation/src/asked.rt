@@ -17,7 +17,7 @@ use x509_check::CertificateRef;
 use x509_ext::pkix::{BasicConstraints, KeyUsage};
 use x509_path::extensions::is_ca;
 
-/// What the caller asks of the uses of keys.
+/// What the caller asks of the uses of keys, and of common names.
 #[derive(Clone, Copy, Debug)]
 pub(crate) struct Uses {
     /// Whether a purpose is asked of all certificates, and not of the last one alone.
@@ -28,6 +28,9 @@ pub(crate) struct Uses {
 
     /// Whether certificates of version 1 are authorities.
     pub(crate) allows_version_1: bool,
+
+    /// Whether the last certificate's common names are asked under name constraints.
+    pub(crate) constrain_common_names: bool,
 }
 
 /// What is asked of a certificate.
@@ -39,7 +42,7 @@ pub(crate) struct Asked<'a> {
     /// The purposes that are left of those of which one is asked for, where one is.
     pub(crate) purposes: Option<Vec<&'a [u8]>>,
 
-    /// What is asked of the uses of keys.
+    /// What is asked of the uses of keys, and of common names.
     pub(crate) uses: Uses,
 }
 

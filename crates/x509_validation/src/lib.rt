@@ -9,6 +9,7 @@
 mod above;
 mod applied;
 mod asked;
+mod common_names;
 mod details;
 mod initial;
 mod keys;

@@ -39,6 +39,11 @@ pub struct PathSettings<'a> {
     /// Whether certificates of version 1, which have no extensions, are authorities (RFC 5280 6.1.4 (k)): of those in the path
     /// the caller then knows that they are, or trusts that none below was made by another.
     pub allows_version_1: bool,
+
+    /// Whether names of servers in the last certificate's common names are asked under name constraints, as those of its SAN
+    /// are (RFC 5280 4.2.1.10): hosts, wildcards and IP addresses, each where the SAN has no name of that form (RFC 6125
+    /// 6.4.4). RFC 5280 asks none.
+    pub constrain_common_names: bool,
 }
 
 impl<'a> PathSettings<'a> {
@@ -46,7 +51,7 @@ impl<'a> PathSettings<'a> {
     ghost use Rattle.x509_validation.specs.Inputs.{uses_of};
 
     /// Validity at that time, and nothing else: under any policy or none, and for no purpose. Where purposes are set, they are
-    /// asked of all certificates; none of version 1 is an authority.
+    /// asked of all certificates; none of version 1 is an authority; no common name is asked under name constraints.
     pub fn new(moment: DateTime) -> PathSettings<'a>
         ensures moment { result.moment ≡ moment }
         ensures constraints { result.name_constraints ≡ None }
@@ -58,6 +63,7 @@ impl<'a> PathSettings<'a> {
         ensures chained { result.is_chained ≡ true }
         ensures usage { result.key_usage.0.0 ≡ 0 }
         ensures version_1 { result.allows_version_1 ≡ false }
+        ensures common_names { result.constrain_common_names ≡ false }
     {
         PathSettings {
             moment,
@@ -70,10 +76,11 @@ impl<'a> PathSettings<'a> {
             is_chained: true,
             key_usage: KeyUsage(KeyUsages::empty()),
             allows_version_1: false,
+            constrain_common_names: false,
         }
     }
 
-    /// What is asked of the uses of keys.
+    /// What is asked of the uses of keys, and of common names.
     pub(crate) fn uses(&self) -> Uses
         ensures { result ≡ uses_of self.now }
     {
@@ -81,6 +88,7 @@ impl<'a> PathSettings<'a> {
             is_chained: self.is_chained,
             key_usage: self.key_usage,
             allows_version_1: self.allows_version_1,
+            constrain_common_names: self.constrain_common_names,
         }
     }
 }

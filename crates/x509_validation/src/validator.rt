@@ -10,6 +10,7 @@ ghost use Rattle.x509_validation.specs.declared.validation_fault.ValidationReaso
 
 use crate::above::{Above, filled_in};
 use crate::asked::{Asked, is_authority};
+use crate::common_names::allows_common_names;
 use crate::matching::{is_asked, is_over, names_match};
 use crate::policies::{Said, said_of};
 use crate::processed::{are_processed, are_spelled, lacks_usage, owned_payload};
@@ -159,7 +160,7 @@ impl<S: Signatures> Validator<'_, S> {
     ghost use Rattle.x509_der.specs.Form.{Spells};
     ghost use Rattle.x509_prim.specs.BitString.{BitParts, bit_string};
     ghost use Rattle.x509_validation.specs.Steps.{HoldsKey, IsOwn, JudgesAlone, JudgesParts, Knows, Stands, standing};
-    ghost use Rattle.x509_validation.specs.Validation.{AreNamesAllowed, Breaks, LackPurpose, asked_at};
+    ghost use Rattle.x509_validation.specs.Validation.{AreCommonNamesAllowed, AreNamesAllowed, Breaks, HasOtherCommonNames, HasOtherNames, LackPurpose, asked_at};
     ghost use Rattle.x509_path.specs.declared.anchor.Anchor.{Anchor};
     ghost use Rattle.x509_validation.specs.declared.validation_fault.ValidationReason.TheVariants as reasons;
 
@@ -250,11 +251,10 @@ impl<S: Signatures> Validator<'_, S> {
         stand: &Stand<'_, '_>,
         parts: &Parts<'_, '_>,
     ) -> Result<bool, AllocError>
-        ensures { IfOk result (λ b. (inputs : Inputs) (above : Anchor) (before : List certificates.Certificate) (n : ℕ) (c : certificates.Certificate)
+        ensures { IfOk result (λ b. (inputs : Inputs) (above : Anchor) (before : List certificates.Certificate) (c : certificates.Certificate)
             → Stands inputs above before self.now.moment stand.now.above stand.now.max_path_length stand.now.sets.now
             → Knows c parts.now.certificate.now.bytes.now parts.now.extensions.now stand.now.is_last parts.now.basic_constraints parts.now.name_constraints.now
-            → IsTrue b ↔ Breaks (S.accepts self.now.signatures.now) inputs (standing above before stand.now.is_last n) parts.now.certificate.now.bytes.now c
-            reasons.Names) }
+            → IsTrue b ↔ HasOtherNames inputs before stand.now.is_last c) }
     {
         if !stand.sets.names.is_any {
             return Ok(false);
@@ -264,6 +264,64 @@ impl<S: Signatures> Validator<'_, S> {
         }
         let are_allowed = self.are_allowed(stand, parts)?;
         Ok(!are_allowed)
+    }
+
+    /// Whether the names of servers in the certificate's common names are allowed.
+    fn are_common_names_allowed(
+        &self,
+        stand: &Stand<'_, '_>,
+        parts: &Parts<'_, '_>,
+    ) -> Result<bool, AllocError>
+        ensures { IfOk result (λ b. (inputs : Inputs) (above : Anchor) (before : List certificates.Certificate) (c : certificates.Certificate)
+            → Stands inputs above before self.now.moment stand.now.above stand.now.max_path_length stand.now.sets.now
+            → Knows c parts.now.certificate.now.bytes.now parts.now.extensions.now stand.now.is_last parts.now.basic_constraints parts.now.name_constraints.now
+            → IsTrue b ↔ AreCommonNamesAllowed inputs before c) }
+    {
+        let subject = known_value::<Name>(self.alloc, parts.certificate.subject())?;
+        let names = owned_payload::<SubjectAltName>(self.alloc, parts.extensions)?;
+        let are_allowed = allows_common_names(
+            self.alloc,
+            &stand.sets.names.sets,
+            &subject,
+            names.as_ref(),
+        )?;
+        Ok(are_allowed)
+    }
+
+    /// Whether the certificate is the last one, the caller asks for its common names, and they aren't allowed.
+    fn has_other_common_names(
+        &self,
+        stand: &Stand<'_, '_>,
+        parts: &Parts<'_, '_>,
+    ) -> Result<bool, AllocError>
+        ensures { IfOk result (λ b. (inputs : Inputs) (above : Anchor) (before : List certificates.Certificate) (c : certificates.Certificate)
+            → Stands inputs above before self.now.moment stand.now.above stand.now.max_path_length stand.now.sets.now
+            → Knows c parts.now.certificate.now.bytes.now parts.now.extensions.now stand.now.is_last parts.now.basic_constraints parts.now.name_constraints.now
+            → IsTrue b ↔ HasOtherCommonNames inputs before stand.now.is_last c) }
+    {
+        if !stand.sets.uses.constrain_common_names || !stand.is_last {
+            return Ok(false);
+        }
+        if !stand.sets.names.is_any {
+            return Ok(false);
+        }
+        let are_allowed = self.are_common_names_allowed(stand, parts)?;
+        Ok(!are_allowed)
+    }
+
+    /// Whether a name of the certificate that is asked isn't allowed.
+    fn breaks_names(&self, stand: &Stand<'_, '_>, parts: &Parts<'_, '_>) -> Result<bool, AllocError>
+        ensures { IfOk result (λ b. (inputs : Inputs) (above : Anchor) (before : List certificates.Certificate) (n : ℕ) (c : certificates.Certificate)
+            → Stands inputs above before self.now.moment stand.now.above stand.now.max_path_length stand.now.sets.now
+            → Knows c parts.now.certificate.now.bytes.now parts.now.extensions.now stand.now.is_last parts.now.basic_constraints parts.now.name_constraints.now
+            → IsTrue b ↔ Breaks (S.accepts self.now.signatures.now) inputs (standing above before stand.now.is_last n) parts.now.certificate.now.bytes.now c
+            reasons.Names) }
+    {
+        if self.has_other_names(stand, parts)? {
+            return Ok(true);
+        }
+        let has_other = self.has_other_common_names(stand, parts)?;
+        Ok(has_other)
     }
 
     /// Whether a purpose is asked for, and none is left behind the certificate with these extensions.
@@ -321,7 +379,7 @@ impl<S: Signatures> Validator<'_, S> {
                 stand.is_last && lacks_usage(self.alloc, stand.sets.uses.key_usage, extensions),
             ),
             ValidationReason::Purpose => self.lacks_purpose(stand, extensions),
-            ValidationReason::Names => self.has_other_names(stand, parts),
+            ValidationReason::Names => self.breaks_names(stand, parts),
             ValidationReason::Constraints => {
                 Ok(!stand.is_last && is_unusable(parts.name_constraints))
             }

@@ -1,7 +1,8 @@
 -- Entries under one key, of entries in the order of their keys.
-use Rattle.std.proofs.Common.{◌≡◌, ◌∙◌, ◌⊎◌, inl, inr, ℕ, ◌+◌, ◌-◌, ◌<◌, ◌≤◌, Bool, true, false, List, length, take, drop, get_or, refl, sym, ap, subst, arith}
+use Rattle.std.proofs.Common.{◌≡◌, ◌∙◌, ◌⊎◌, inl, inr, ℕ, zero, suc, ◌+◌, ◌-◌, ◌<◌, ◌≤◌, Bool, true, false, List, [], ◌∷◌, ◌++◌, length, take, drop, get_or, filter, cond, refl, sym, ap, subst, arith}
 use Rattle.std.proofs.lemmas.Bool.{cases_lt, true≢false}
-use Rattle.std.proofs.lemmas.List.{get_or-drop, get_or-take, length-drop, length-take-le}
+use Rattle.std.proofs.lemmas.List.{append-nil, get_or-drop, get_or-take, length-drop, length-take-le, take-append-drop}
+use Rattle.std.proofs.lemmas.List.Elements.{filter-append}
 use Rattle.std.proofs.lemmas.List.Sorted.{IsNonDecreasingBy-drop, searchable_from_sorted}
 use Rattle.std.specs.Cmp.{IsTotalOrder}
 use Rattle.std.specs.List.{AllWithin, Contains}
@@ -32,6 +33,33 @@ pub equal : (a : Ordering) → is_eq a ≡ true → a ≡ Equal
 equal Less is = absurd (true≢false (sym is))
 equal Equal is = refl
 equal Greater is = absurd (true≢false (sym is))
+
+-- it lies between those before and those behind
+is_eq_before : (a : Ordering) → is_lt a ≡ true → is_eq a ≡ false
+is_eq_before Less is = refl
+is_eq_before Equal is = absurd (true≢false (sym is))
+is_eq_before Greater is = refl
+
+is_eq_behind : (a : Ordering) → is_le a ≡ false → is_eq a ≡ false
+is_eq_behind Less is = absurd (true≢false is)
+is_eq_behind Equal is = absurd (true≢false is)
+is_eq_behind Greater is = refl
+
+is_eq_between : (a : Ordering) → is_lt a ≡ false → is_le a ≡ true → is_eq a ≡ true
+is_eq_between Less early is = absurd (true≢false early)
+is_eq_between Equal early is = refl
+is_eq_between Greater early is = absurd (true≢false (sym is))
+
+-- of elements that all fail the test none is left, and of those that pass it all are
+filter_none : {X : Type 0} (p : X → Bool) (xs : List X) → ((k : ℕ) (d : X) → k < length xs → p (get_or xs k d) ≡ false) → filter p xs ≡ []
+filter_none p [] fails = refl
+filter_none p (x ∷ xs) fails =
+    ap (λ b. cond b (x ∷ filter p xs) (filter p xs)) (fails 0 x (omega arith)) ∙ filter_none p xs (λ k d less. fails (suc k) d (omega (arith, less)))
+
+filter_every : {X : Type 0} (p : X → Bool) (xs : List X) → ((k : ℕ) (d : X) → k < length xs → p (get_or xs k d) ≡ true) → filter p xs ≡ xs
+filter_every p [] passes = refl
+filter_every p (x ∷ xs) passes =
+    ap (λ b. cond b (x ∷ filter p xs) (filter p xs)) (passes 0 x (omega arith)) ∙ ap (λ ys. x ∷ ys) (filter_every p xs (λ k d less. passes (suc k) d (omega (arith, less))))
 
 module _ {K V : Type 0} (entries : List (Keyed K V)) (low count : ℕ) (within : low ≤ length entries) (enough : count ≤ length (drop low entries)) where
   at : (k : ℕ) (d : Keyed K V) → k < count → get_or (take count (drop low entries)) k d ≡ get_or entries (low + k) d
@@ -78,3 +106,28 @@ module _ {K V : Type 0} {R : K → K → Ordering} (o : IsTotalOrder R) (key : K
               | inr past ↦ absurd (true≢false (sym (ap is_le (ap (λ (e : Keyed K V). R e.key key) there ∙ same)) ∙ last.1 (k - low) entry past (omega (arith, less, size, late))))
             ]
       ]
+
+      -- and those are all that are equal
+      pub all_found : (eq : K → K → Bool) → ((k : K) → eq k key ≡ is_eq (R k key)) → take count (drop low entries) ≡ filter (λ (entry : Keyed K V). eq entry.key key) entries
+      all_found eq same =
+          let p : Keyed K V → Bool = λ entry. eq entry.key key in
+          let behind = drop low entries in
+          let size = length-take-le count behind enough in
+          let rest = length-drop count behind in
+          let many = length-take-le low entries within in
+          let early : filter p (take low entries) ≡ [] = filter_none p (take low entries) (λ k d less.
+          let here : k < low = omega (arith, less, many) in
+          ap p (get_or-take low entries k d here) ∙ (same (get_or entries k d).key ∙ is_eq_before (R (get_or entries k d).key key) (first.0 k d (omega (arith, here, within)) here))) in
+          let late : filter p (drop count behind) ≡ [] = filter_none p (drop count behind) (λ k d less.
+          let there : count + k < length behind = omega (arith, less, rest, enough) in
+          ap p (get_or-drop count behind k d) ∙ (same (get_or behind (count + k) d).key ∙ is_eq_behind (R (get_or behind (count + k) d).key key) (last.1 (count + k) d (omega arith) there))) in
+          let middle : filter p (take count behind) ≡ take count behind = filter_every p (take count behind) (λ k d less.
+          let here : k < count = omega (arith, less, size) in
+          let inside : low + k < length entries = omega (arith, here, enough, length-drop low entries, within) in
+          ap p (get_or-take count behind k d here) ∙ (same (get_or behind k d).key ∙ is_eq_between (R (get_or behind k d).key key)
+          (ap (λ (e : Keyed K V). is_lt (R e.key key)) (get_or-drop low entries k d) ∙ first.1 (low + k) d (omega arith) inside) (last.0 k d (omega (arith, here, enough)) here))) in
+          sym (
+          ap (filter p) (sym (take-append-drop low entries)) ∙ (filter-append p (take low entries) behind ∙ (ap (λ xs. xs ++ filter p behind) early
+          ∙ (ap (filter p) (sym (take-append-drop count behind)) ∙ (filter-append p (take count behind) (drop count behind)
+          ∙ (ap (λ xs. filter p (take count behind) ++ xs) late ∙ (append-nil (filter p (take count behind)) ∙ middle))))))
+          )

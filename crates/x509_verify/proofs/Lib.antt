@@ -1,6 +1,8 @@
 pub mod Entries
 pub mod Gathering
 pub mod Keys
+pub mod Counting
+pub mod WithinLimits
 pub mod Climbing
 pub mod Signing
 pub mod SigningSteps

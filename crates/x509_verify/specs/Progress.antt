@@ -1,7 +1,7 @@
 -- Tools of the proofs: what a search knows on its way, from the certificate up.
 use Rattle.std.specs.Borrow.{Bor}
 use Rattle.std.specs.List.{All}
-use Rattle.std.specs.Prelude.{◌≡◌, ◌≢◌, ◌≤◌, ◌<◌, ◌+◌, ◌↔◌, ◌⊎◌, ℕ, zero, suc, Bool, true, false, List, [], ◌∷◌, ◌++◌, length, map, Contains, Option, Some, None, IsSome, MatchOption}
+use Rattle.std.specs.Prelude.{◌≡◌, ◌≢◌, ◌≤◌, ◌<◌, ◌+◌, ◌↔◌, ◌⊎◌, ℕ, zero, suc, Bool, true, false, List, [], ◌∷◌, ◌++◌, length, map, Contains, Option, Some, None, IsSome, MatchOption, Result, Ok, Err}
 use Rattle.x509_base.specs.SubjectPublicKeyInfo.{subject_public_key_info}
 use Rattle.x509_base.specs.declared.subject_public_key_info.SubjectPublicKeyInfo.{SubjectPublicKeyInfo}
 use Rattle.x509_cert.specs.Certificate.{rfc5280_certificate}
@@ -14,6 +14,7 @@ use Rattle.x509_path.specs.Lent.{Lends}
 use Rattle.x509_validation.specs.Keys.{working_key}
 use Rattle.x509_validation.specs.declared.settings.PathSettings.{PathSettings}
 use Rattle.x509_validation.specs.declared.trusted.Trusted.{Trusted}
+use Rattle.x509_verify.specs.Effort.{Effort}
 use Rattle.x509_verify.specs.Found.{AreDistinct, AreLinked, IsFound, IsLinkedTo, IsRefusal, IsShortest, IsValidUnder, LeadsTo, Wanted, octets}
 use Rattle.x509_verify.specs.Given.{candidates_of, trusted_of}
 use Rattle.x509_verify.specs.Named.{IsDecodable, Name}
@@ -22,6 +23,8 @@ use Rattle.x509_verify.specs.declared.found.Found.{Found}
 use Rattle.x509_verify.specs.declared.pool.Pool.{Pool}
 use Rattle.x509_verify.specs.declared.progress.Asked.{Asked}
 use Rattle.x509_verify.specs.declared.progress.Progress.{Progress}
+use Rattle.x509_verify.specs.declared.progress.Stop.{Stop}
+use Rattle.x509_verify.specs.declared.progress.Stop.TheVariants.{Memory, Limit}
 use Rattle.x509_verify.specs.declared.refusal.Refusal.{Refusal}
 
 -- ---- signatures
@@ -128,3 +131,36 @@ pub record AreTriedBelow (accepts : Accepting) (wanted : Wanted) (depth : ℕ) (
 abbrev pub EndsSearch : Accepting → Wanted → Option Refusal → Option Found → Type 0
 EndsSearch accepts wanted refusal None = AreTriedBelow accepts wanted (suc wanted.max_depth) refusal
 EndsSearch accepts wanted refusal (Some found) = IsFound accepts wanted found × IsShortest accepts wanted found
+
+-- ---- what a search takes
+
+-- what is left to it
+abbrev pub left_of : Progress → Effort
+left_of progress = record { steps = progress.steps; paths = progress.paths; signatures = progress.signatures }
+
+-- of what was left so many steps and paths were taken, and no more signatures than that
+pub record Takes (before after : Effort) (effort : Effort) : Type 0 where
+  pub steps : before.steps ≡ after.steps + effort.steps
+  pub paths : before.paths ≡ after.paths + effort.paths
+  pub signatures : before.signatures ≤ after.signatures + effort.signatures
+
+-- less is left than is needed
+abbrev pub Lacks : Effort → Effort → Type 0
+Lacks left effort = (left.steps < effort.steps) ⊎ ((left.paths < effort.paths) ⊎ (left.signatures < effort.signatures))
+
+-- where nothing is found, all was tried; a limit stops only what needs more than is left
+abbrev pub Spends : Effort → Effort → Effort → Result (Option Found) Stop → Type 0
+Spends before after effort (Ok None) = Takes before after effort
+Spends before after effort (Err Limit) = Lacks before effort
+Spends before after effort _ = Unit {0}
+
+-- what is found has so many certificates
+abbrev pub FindsLong : ℕ → Result (Option Found) Stop → Type 0
+FindsLong whole (Ok (Some found)) = length found.path.items ≡ whole
+FindsLong whole _ = Unit {0}
+
+-- what is found has some number of candidates above so many certificates, and for all fewer there was enough
+abbrev pub FindsBehind : ℕ → (ℕ → Effort) → Effort → Result (Option Found) Stop → Type 0
+FindsBehind many below left (Ok (Some found)) =
+    (count : ℕ) × (length found.path.items ≡ many + count) × (((below count).steps ≤ left.steps) × ((below count).paths ≤ left.paths))
+FindsBehind many below left _ = Unit {0}

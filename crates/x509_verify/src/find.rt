@@ -1,12 +1,14 @@
 //! Finding a path.
 
 ghost use Rattle.std.specs.Prelude.{◌≡◌};
+ghost use Rattle.x509_verify.specs.Effort.{KeepsLimits};
 ghost use Rattle.x509_verify.specs.Found.{Answers, told_by};
 ghost use Rattle.x509_verify.specs.Given.{candidates_of, trusted_of};
 
 use crate::anchors::Anchors;
 use crate::find_error::FindError;
 use crate::found::Found;
+use crate::key_ids::issuer_key_id_of;
 use crate::limits::SearchLimits;
 use crate::pool::{Pool, name_key};
 use crate::progress::{Progress, Stop};
@@ -37,10 +39,12 @@ fn none_found<'a>(progress: Progress<'a>) -> FindError<'a>
 /// certificate. Above one stand those whose subject matches its issuer (RFC 5280 7.1), which are looked up.
 /// Under each anchor of that name what stands below is validated as a whole, with any bits taken for signatures; and where that
 /// is valid the signatures are verified, from the topmost down. Shorter paths are tried before longer ones, so that no valid path is
-/// shorter than the one that is found.
+/// shorter than the one that is found. Candidates of one name are tried from the latest on, by `notBefore`; that whose
+/// SubjectKeyIdentifier the certificate below names in its AuthorityKeyIdentifier is the first (4.2.1.1, 4.2.1.2). None is ruled out
+/// by that.
 ///
 /// The time grows with what is tried, which the limits bound: a certificate that issues itself, loops and cross-signed authorities
-/// end there. Memory is taken for names, for paths that are tried, and for what the verifier was asked.
+/// end there. A path is found only where all that are shorter take no more steps and paths than are allowed. Memory is taken for names, for paths that are tried, and for what the verifier was asked.
 ///
 /// # Errors
 ///
@@ -48,7 +52,8 @@ fn none_found<'a>(progress: Progress<'a>) -> FindError<'a>
 /// something is wrong with the certificate whatever stands above it, with the first such thing, as
 /// [`last_fault`](x509_validation::last_fault) says. Else [`FindError::UnknownIssuer`] or [`FindError::Refused`] only where there is
 /// no path, the first only where no candidates lead by their names from an anchor to the certificate, the second with a fault of
-/// one that does. In place of these [`FindError::Limit`] where a limit is used up, and, wherever the bytes are those of a
+/// one that does; and only where to try all paths takes no more steps and paths than are allowed. In place of these
+/// [`FindError::Limit`] only where it takes more steps, paths or signatures than are allowed, and, wherever the bytes are those of a
 /// certificate, [`FindError::Memory`] when out of memory: these say nothing of whether there is a path.
 pub fn find_path<'a, V: SliceVerifier>(
     alloc: Global,
@@ -59,7 +64,8 @@ pub fn find_path<'a, V: SliceVerifier>(
     limits: &SearchLimits,
     verifier: &V,
 ) -> Result<Found<'a>, FindError<'a>>
-    ensures { Answers (V.accepts verifier.now) (record {
+    ensures bounded { KeepsLimits anchors.now pool.now limits.now leaf.now result }
+    ensures answers { Answers (V.accepts verifier.now) (record {
       settings = settings.now;
       trusted = trusted_of anchors.now;
       candidates = candidates_of pool.now;
@@ -94,7 +100,8 @@ pub fn find_path<'a, V: SliceVerifier>(
         settings,
         verifier,
     };
-    match search.climb_by_length(&mut progress, &[leaf], &issuer, limits.max_depth) {
+    let key_id = issuer_key_id_of(&certificate);
+    match search.climb_by_length(&mut progress, &[leaf], &issuer, key_id, limits.max_depth) {
         Ok(Some(found)) => Ok(found),
         Ok(None) => Err(none_found(progress)),
         Err(Stop::Memory) => Err(FindError::Memory),

@@ -9,7 +9,7 @@ pub enum FindError<'a> {
     /// Out of memory.
     Memory,
 
-    /// More steps, paths or signatures would be needed than are allowed. Whether there is a path isn't known.
+    /// To try all paths takes more steps, paths or signatures than are allowed. Whether there is a path isn't known.
     Limit,
 
     /// The bytes aren't the encoding of a certificate.

@@ -1,6 +1,6 @@
 //! Entries in the order of their keys.
 
-ghost use Rattle.std.specs.Prelude.{◌≡◌, Contains, IfOk, IsPermutation, true};
+ghost use Rattle.std.specs.Prelude.{◌≡◌, Contains, IfOk, IsPermutation, filter, true};
 ghost use Rattle.x509_verify.specs.Keyed.{IsInOrder};
 
 use std::alloc::AllocError;
@@ -30,6 +30,7 @@ pub(crate) fn in_order<K: Ord + Drop, V: Drop>(
 /// The entries whose keys are equal to that one, of entries in the order of their keys.
 pub(crate) fn under_key<'s, K: Ord, V>(entries: &'s [Keyed<K, V>], key: &K) -> &'s [Keyed<K, V>]
     requires { IsInOrder K.cmp entries.now }
+    ensures all { result.now ≡ filter (λ entry. K.eq entry.key key.now) entries.now }
     ensures every { (entry : Keyed K V) → Contains entries.now entry → K.eq entry.key key.now ≡ true → Contains result.now entry }
     ensures some { (entry : Keyed K V) → Contains result.now entry → Contains entries.now entry }
 {

@@ -10,6 +10,7 @@ mod candidate;
 mod find;
 mod find_error;
 mod found;
+mod key_ids;
 mod keyed;
 pub mod laws;
 mod limits;

@@ -1,7 +1,7 @@
 //! Candidates for a path, looked up by subject.
 
 ghost use Rattle.std.specs.List.{All};
-ghost use Rattle.std.specs.Prelude.{◌≡◌, IfOk};
+ghost use Rattle.std.specs.Prelude.{◌≡◌, IfOk, IsPermutation};
 ghost use Rattle.x509_der.specs.Form.{Spells};
 ghost use Rattle.x509_match.specs.NameKeys.{IsNameKey};
 ghost use Rattle.x509_name.specs.Names.{name};
@@ -11,14 +11,15 @@ ghost use Rattle.x509_verify.specs.Keyed.{IsInOrder};
 ghost use Rattle.x509_verify.specs.Named.{IsUnderSubject, Name};
 
 use crate::candidate::Candidate;
+use crate::key_ids::{issuer_key_id_of, key_id_of};
 use crate::keyed::{Keyed, in_order};
 use std::alloc::{AllocError, Global};
 use x509_check::CertificateRef;
 use x509_match::MatchedName;
 
 /// Candidates for the certificates of a path between what is trusted and the last one, in the order of their subjects: those of one
-/// subject are found in time that grows with the logarithm of how many there are. They are made once, and serve any number of
-/// searches.
+/// subject are found in time that grows with the logarithm of how many there are, the latest first. They are made once, and serve
+/// any number of searches.
 #[derive(Drop)]
 pub struct Pool<'a> {
     pub(crate) entries: Vec<Keyed<MatchedName, Candidate<'a>>>,
@@ -51,8 +52,22 @@ fn entry_of<'a>(
         value: Candidate {
             certificate,
             issuer,
+            key_id: key_id_of(&certificate),
+            issuer_key_id: issuer_key_id_of(&certificate),
+            not_before: certificate.validity().not_before.to_date_time(),
         },
     })
+}
+
+/// The candidates, those first that are valid from the latest moment on.
+fn latest_first<'a>(
+    entries: Vec<Keyed<MatchedName, Candidate<'a>>>,
+) -> Result<Vec<Keyed<MatchedName, Candidate<'a>>>, AllocError>
+    ensures { IfOk result (λ sorted. IsPermutation entries.entry.items sorted.items) }
+{
+    let mut sorted = entries;
+    sorted.sort_by(|a, b| b.value.not_before.cmp(&a.value.not_before))?;
+    Ok(sorted)
 }
 
 impl<'a> Pool<'a> {
@@ -76,7 +91,7 @@ impl<'a> Pool<'a> {
             }
         }
         Ok(Pool {
-            entries: in_order(entries)?,
+            entries: in_order(latest_first(entries)?)?,
         })
     }
 }

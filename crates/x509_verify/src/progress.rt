@@ -20,11 +20,11 @@ pub(crate) enum Stop {
 
 impl From<AllocError> for Stop {
     ghost use Rattle.std.specs.Prelude.{◌≡◌};
-    ghost use Rattle.x509_verify.specs.declared.progress.Stop.TheVariants as stops;
+    ghost use Rattle.x509_verify.specs.declared.progress.Stop.TheVariants.{Memory};
 
-    fn from(_: AllocError) -> Stop
-        ensures { result ≡ stops.Memory }
-    {
+    ghost from_gives = { λ _ stop. stop ≡ Memory };
+
+    fn from(_: AllocError) -> Stop {
         Stop::Memory
     }
 }

@@ -4,6 +4,7 @@ ghost use Rattle.std.specs.Prelude.{◌≡◌, ◌∷◌, ◌↔◌, ℕ, Contai
 ghost use Rattle.x509_verify.specs.Found.{octets};
 
 use crate::anchors::Anchors;
+use crate::candidate::{in_turn, start_of};
 use crate::found::Found;
 use crate::keyed::under_key;
 use crate::pool::Pool;
@@ -67,7 +68,8 @@ fn put_above<'a>(
 
 impl<'s, 'a, V: SliceVerifier> Search<'s, 'a, V> {
     ghost use Rattle.std.specs.List.{All};
-    ghost use Rattle.std.specs.Prelude.{◌≡◌, ◌∷◌, [], ℕ, Contains, MatchOption, MatchResult, None};
+    ghost use Rattle.std.specs.Prelude.{◌≡◌, ◌∷◌, ◌+◌, ◌*◌, [], ℕ, suc, Contains, MatchOption, MatchResult, None, length};
+    ghost use Rattle.x509_verify.specs.Effort.{anchored, effort, effort_below};
     ghost use Rattle.x509_verify.specs.Found.{Wanted, octets};
     ghost use Rattle.x509_verify.specs.Progress.{AreDecodable, IsOnPath, IsRight, IsSearched, KnowsIssuer};
     ghost use Rattle.x509_verify.specs.Progress as searches;
@@ -81,7 +83,9 @@ impl<'s, 'a, V: SliceVerifier> Search<'s, 'a, V> {
         path: &[&'a [u8]],
     ) -> Result<Option<Found<'a>>, Stop>
         requires { AreDecodable (octets path.now) }
-        ensures { (wanted : Wanted) → wanted.settings ≡ self.now.settings.now → Contains wanted.trusted trusted.now → IsOnPath wanted (octets path.now) 0
+        ensures counted { searches.Spends (searches.left_of progress.old) (searches.left_of progress.new) (record { steps = 0; paths = 1; signatures = length path.now }) result }
+        ensures long { searches.FindsLong (length path.now) result }
+        ensures tells { (wanted : Wanted) → wanted.settings ≡ self.now.settings.now → Contains wanted.trusted trusted.now → IsOnPath wanted (octets path.now) 0
             → IsRight (V.accepts self.now.verifier.now) wanted progress.old → MatchResult result
             (λ found. searches.Continues (V.accepts self.now.verifier.now) wanted progress.old progress.new
             (searches.IsTriedUnder (V.accepts self.now.verifier.now) wanted trusted.now (octets path.now) progress.new.refusal) found) (λ _. Unit) }
@@ -136,7 +140,13 @@ impl<'s, 'a, V: SliceVerifier> Search<'s, 'a, V> {
         issuer: &MatchedName,
     ) -> Result<Option<Found<'a>>, Stop>
         requires { AreDecodable (octets path.now) }
-        ensures { (wanted : Wanted) → IsSearched self.now.settings.now self.now.anchors.now self.now.pool.now wanted → IsOnPath wanted (octets path.now) 0
+        ensures counted { searches.Spends (searches.left_of progress.old) (searches.left_of progress.new) (record {
+          steps = 0;
+          paths = anchored self.now.anchors.now issuer.now;
+          signatures = anchored self.now.anchors.now issuer.now * length path.now;
+        }) result }
+        ensures long { searches.FindsLong (length path.now) result }
+        ensures tells { (wanted : Wanted) → IsSearched self.now.settings.now self.now.anchors.now self.now.pool.now wanted → IsOnPath wanted (octets path.now) 0
             → KnowsIssuer (octets path.now) issuer.now → IsRight (V.accepts self.now.verifier.now) wanted progress.old → MatchResult result
             (λ found. searches.Continues (V.accepts self.now.verifier.now) wanted progress.old progress.new
             (searches.AreTried (V.accepts self.now.verifier.now) wanted (octets path.now) progress.new.refusal) found) (λ _. Unit) }
@@ -153,15 +163,19 @@ impl<'s, 'a, V: SliceVerifier> Search<'s, 'a, V> {
     }
 
     /// A valid path that ends in this one, the issuer of whose topmost certificate has this key, with so many candidates more above it.
+    /// Where that certificate names the identifier of the issuer's key, a candidate that has it is tried first.
     pub(crate) fn climb(
         &self,
         progress: &mut Progress<'a>,
         path: &[&'a [u8]],
         issuer: &MatchedName,
+        key_id: Option<&[u8]>,
         left: u16,
     ) -> Result<Option<Found<'a>>, Stop>
         requires { AreDecodable (octets path.now) }
-        ensures { (wanted : Wanted) → IsSearched self.now.settings.now self.now.anchors.now self.now.pool.now wanted → IsOnPath wanted (octets path.now) left
+        ensures counted { searches.Spends (searches.left_of progress.old) (searches.left_of progress.new) (effort self.now.anchors.now self.now.pool.now (length path.now + left) left (octets path.now) issuer.now) result }
+        ensures long { searches.FindsLong (length path.now + left) result }
+        ensures tells { (wanted : Wanted) → IsSearched self.now.settings.now self.now.anchors.now self.now.pool.now wanted → IsOnPath wanted (octets path.now) left
             → KnowsIssuer (octets path.now) issuer.now → IsRight (V.accepts self.now.verifier.now) wanted progress.old → MatchResult result
             (λ found. searches.Continues (V.accepts self.now.verifier.now) wanted progress.old progress.new
             (searches.IsTried (V.accepts self.now.verifier.now) wanted (octets path.now) left progress.new.refusal) found) (λ _. Unit) }
@@ -172,12 +186,21 @@ impl<'s, 'a, V: SliceVerifier> Search<'s, 'a, V> {
         bytes_determine_the_name();
         keys_are_equal_where_names_match();
         let named = under_key(self.pool.entries.as_slice(), issuer);
-        for entry in named {
-            let bytes = entry.value.certificate.as_bytes();
+        let count = named.len();
+        let start = start_of(named, key_id);
+        for place in 0..count {
+            let candidate = &named[in_turn(place, start, count)].value;
+            let bytes = candidate.certificate.as_bytes();
             if !is_in(path, bytes) {
                 take_one(&mut progress.steps)?;
                 let longer = put_above(self.alloc, bytes, path)?;
-                let found = self.climb(progress, longer.as_slice(), &entry.value.issuer, fewer)?;
+                let found = self.climb(
+                    progress,
+                    longer.as_slice(),
+                    &candidate.issuer,
+                    candidate.issuer_key_id,
+                    fewer,
+                )?;
                 if let Some(found) = found {
                     return Ok(Some(found));
                 }
@@ -192,10 +215,14 @@ impl<'s, 'a, V: SliceVerifier> Search<'s, 'a, V> {
         progress: &mut Progress<'a>,
         path: &[&'a [u8]],
         issuer: &MatchedName,
+        key_id: Option<&[u8]>,
         max_depth: u8,
     ) -> Result<Option<Found<'a>>, Stop>
         requires { AreDecodable (octets path.now) }
-        ensures { (wanted : Wanted) → IsSearched self.now.settings.now self.now.anchors.now self.now.pool.now wanted
+        ensures counted { searches.Spends (searches.left_of progress.old) (searches.left_of progress.new)
+            (effort_below self.now.anchors.now self.now.pool.now (suc max_depth) (octets path.now) issuer.now) result }
+        ensures shorter { searches.FindsBehind (length path.now) (λ count. effort_below self.now.anchors.now self.now.pool.now count (octets path.now) issuer.now) (searches.left_of progress.old) result }
+        ensures tells { (wanted : Wanted) → IsSearched self.now.settings.now self.now.anchors.now self.now.pool.now wanted
             → wanted.max_depth ≡ max_depth → octets path.now ≡ wanted.leaf ∷ []
             → KnowsIssuer (octets path.now) issuer.now → All (searches.IsAnswer (V.accepts self.now.verifier.now)) progress.old.asked.items
             → progress.old.refusal ≡ None → MatchResult result
@@ -203,7 +230,7 @@ impl<'s, 'a, V: SliceVerifier> Search<'s, 'a, V> {
             (λ _. Unit) }
     {
         for depth in 0..u16::from(max_depth) + 1 {
-            if let Some(found) = self.climb(progress, path, issuer, depth)? {
+            if let Some(found) = self.climb(progress, path, issuer, key_id, depth)? {
                 return Ok(Some(found));
             }
         }

@@ -1,7 +1,7 @@
 //! Signatures along a path, apart from all else that is asked of it.
 
 ghost use Rattle.std.specs.List.{All};
-ghost use Rattle.std.specs.Prelude.{◌≡◌, ◌↔◌, ◌++◌, ◌∷◌, [], IfOk, IfSome, IsTrue, OnOk};
+ghost use Rattle.std.specs.Prelude.{◌≡◌, ◌↔◌, ◌++◌, ◌∷◌, ◌+◌, ◌≤◌, ◌<◌, [], IfOk, IfSome, IsTrue, MatchResult, OnOk, length};
 ghost use Rattle.x509_base.specs.SubjectPublicKeyInfo.{subject_public_key_info};
 ghost use Rattle.x509_base.specs.declared.subject_public_key_info.SubjectPublicKeyInfo as keys;
 ghost use Rattle.x509_der.specs.Form.{Spells};
@@ -11,6 +11,7 @@ ghost use Rattle.x509_path.specs.Lent.{Lends};
 ghost use Rattle.x509_validation.specs.Keys as keyed;
 ghost use Rattle.x509_verify.specs.Found.{octets};
 ghost use Rattle.x509_verify.specs.Progress.{AreDecodable, IsAnswer, TellsSigned};
+ghost use Rattle.x509_verify.specs.declared.progress.Stop.TheVariants as stops;
 
 use crate::progress::{Asked, Stop, take_one};
 use std::alloc::{AllocError, Global};
@@ -59,6 +60,7 @@ fn ask<'a, V: SliceVerifier>(
     certificate: &CertificateRef<'a>,
     key: Vec<u8>,
 ) -> Result<bool, Stop>
+    ensures counted { MatchResult result (λ _. left.old ≤ left.new + 1) (λ e. e ≡ stops.Limit → left.old ≡ 0) }
     ensures answers { All (IsAnswer (V.accepts verifier.now)) asked.old.items → IfOk result (λ b. (c : certificates.Certificate) (k : keys.SubjectPublicKeyInfo)
         → Lends certificate.now.bytes.now c → Spells subject_public_key_info k key.items
         → IsTrue b ↔ certificates.IsSigned (V.accepts verifier.now) k certificate.now.bytes.now c) }
@@ -106,6 +108,7 @@ pub(crate) fn unsigned_place<'a, V: SliceVerifier>(
     path: &[&'a [u8]],
 ) -> Result<Option<usize>, Stop>
     requires { AreDecodable (octets path.now) }
+    ensures counted { MatchResult result (λ _. left.old ≤ left.new + length path.now) (λ e. e ≡ stops.Limit → left.old < length path.now) }
     ensures tells { (k : keys.SubjectPublicKeyInfo) → Spells subject_public_key_info k trusted.now → All (IsAnswer (V.accepts verifier.now)) asked.old.items
         → IfOk result (λ place. TellsSigned (V.accepts verifier.now) k (octets path.now) place) }
     ensures remembered { All (IsAnswer (V.accepts verifier.now)) asked.old.items → OnOk result (All (IsAnswer (V.accepts verifier.now)) asked.new.items) }

@@ -294,8 +294,8 @@ fn find_under<'a>(
 /// # Errors
 ///
 /// [`Status::Absent`] where there is no path, since no candidates lead by their names from an anchor to the certificate.
-/// [`Status::Limit`] where more than 200,000 candidates would be put above others, or more than 1,000 paths be validated: whether there
-/// is a path isn't known.
+/// [`Status::Limit`] only where to try all paths takes more than 200,000 candidates that are put above others, or more than 1,000 paths
+/// that are validated: whether there is a path isn't known.
 ///
 /// `Value` where the settings are none, as for [`path_validate`](crate::path_validate), or more than 255 candidates would be allowed;
 /// `Failed` where a certificate or a key isn't within the bytes, or an anchor has no name or has one of the extensions that are followed
@@ -352,6 +352,7 @@ pub fn path_find(
         is_chained: !asked.is_unchained,
         key_usage: asked.key_usage,
         allows_version_1: asked.allows_version_1,
+        constrain_common_names: asked.constrain_common_names,
     };
     find_under(alloc, search, &settings, max_depth, path, found)
 }

@@ -52,6 +52,9 @@ pub(crate) struct AskedSettings {
     /// Whether certificates of version 1 are authorities.
     pub allows_version_1: bool,
 
+    /// Whether names of servers in the last certificate's common names are asked under name constraints.
+    pub constrain_common_names: bool,
+
     /// The bits that the last certificate's KeyUsage has to have.
     pub key_usage: KeyUsage,
 
@@ -143,7 +146,7 @@ pub(crate) fn settings_of(settings: &[u8]) -> Option<AskedSettings>
     let flags = number_at(settings, 8);
     let usage = number_at(settings, 16);
     let purposes = number_at(settings, 24);
-    if flags > 31 || usage > 511 || purposes > 63 {
+    if flags > 63 || usage > 511 || purposes > 63 {
         return None;
     }
     match DateTime::from_unix_duration(Duration::from_secs(number_at(settings, 0))) {
@@ -153,7 +156,8 @@ pub(crate) fn settings_of(settings: &[u8]) -> Option<AskedSettings>
             inhibit_policy_mapping: flags / 2 % 2 == 1,
             inhibit_any_policy: flags / 4 % 2 == 1,
             is_unchained: flags / 8 % 2 == 1,
-            allows_version_1: flags / 16 == 1,
+            allows_version_1: flags / 16 % 2 == 1,
+            constrain_common_names: flags / 32 == 1,
             key_usage: KeyUsage(KeyUsages::from_bits_retain(usage as u16)),
             purposes,
         }),

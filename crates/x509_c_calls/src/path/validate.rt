@@ -152,6 +152,7 @@ fn validate_under(
         is_chained: !asked.is_unchained,
         key_usage: asked.key_usage,
         allows_version_1: asked.allows_version_1,
+        constrain_common_names: asked.constrain_common_names,
     };
     tell(alloc, trusted, path.as_slice(), &settings, room, answer)
 }

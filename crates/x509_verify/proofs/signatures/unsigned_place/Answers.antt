@@ -26,7 +26,7 @@ unreachable-requires g c =
 pub returns-then-not-branch-clause-tells : goal.returns-then-not-branch-clause-tells
 returns-then-not-branch-clause-tells g c = λ key spells all.
     let accepts = g.V.SliceVerifier.accepts c.args.verifier.now in
-    let known = c.loop-place.invariant all in
+    let known = c.loop-place.invariant.tells all in
     let passed = known.passed key spells in
     let bytes = (get_or c.args.path.now c.loop-place.place nothing).now in
     let here = drop_here c.args.path.now c.loop-place.place nothing c.loop-place-test.true in
@@ -36,17 +36,20 @@ returns-then-not-branch-clause-tells g c = λ key spells all.
     (subst (λ b. IsSigned accepts passed.key b certificate) (sym c.in-Ok.ensures.found.0) signed)) ∙ c.if-not-branch.true))
 
 pub loop-place-preserved : goal.loop-place-preserved
-loop-place-preserved g c = λ all.
-    let accepts = g.V.SliceVerifier.accepts c.args.verifier.now in
-    let known = c.loop-place.invariant all in
-    let bytes = (get_or c.args.path.now c.loop-place.place nothing).now in
-    let (certificate, found) = c.in-Ok.ensures.found.1 in
-    let lends = subst (λ b. Lends b certificate) (sym c.in-Ok.ensures.found.0) found in record {
-      remembered = c.in_ok-ask.ensures.remembered known.remembered;
-      passed = λ key spells.
-          let passed = known.passed key spells in
-          goes_on accepts key (octets c.args.path.now) c.loop-place.place c.loop-place.above.items bytes certificate passed (drop_here c.args.path.now c.loop-place.place nothing c.loop-place-test.true) found
-          c.in_ok-below.below.items (c.loop-place.place + 1) (omega arith)
-          (subst (λ b. IsSigned accepts passed.key b certificate) c.in-Ok.ensures.found.0 ((c.in_ok-ask.ensures.answers known.remembered certificate passed.key lends passed.spells).0 c.if-not-branch.false))
-          (c.in_ok-below.ensures certificate passed.key lends (subst (λ o. Spells subject_public_key_info passed.key o) (sym c.as_slice.ensures.value) passed.spells));
-    }
+loop-place-preserved g c = record {
+  counted = omega (arith, c.loop-place.invariant.counted, c.in_ok-ask.ensures.counted);
+  tells = λ all.
+      let accepts = g.V.SliceVerifier.accepts c.args.verifier.now in
+      let known = c.loop-place.invariant.tells all in
+      let bytes = (get_or c.args.path.now c.loop-place.place nothing).now in
+      let (certificate, found) = c.in-Ok.ensures.found.1 in
+      let lends = subst (λ b. Lends b certificate) (sym c.in-Ok.ensures.found.0) found in record {
+        remembered = c.in_ok-ask.ensures.remembered known.remembered;
+        passed = λ key spells.
+            let passed = known.passed key spells in
+            goes_on accepts key (octets c.args.path.now) c.loop-place.place c.loop-place.above.items bytes certificate passed (drop_here c.args.path.now c.loop-place.place nothing c.loop-place-test.true) found
+            c.in_ok-below.below.items (c.loop-place.place + 1) (omega arith)
+            (subst (λ b. IsSigned accepts passed.key b certificate) c.in-Ok.ensures.found.0 ((c.in_ok-ask.ensures.answers known.remembered certificate passed.key lends passed.spells).0 c.if-not-branch.false))
+            (c.in_ok-below.ensures certificate passed.key lends (subst (λ o. Spells subject_public_key_info passed.key o) (sym c.as_slice.ensures.value) passed.spells));
+      };
+}

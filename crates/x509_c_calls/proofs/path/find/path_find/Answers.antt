@@ -38,6 +38,7 @@ find_under-requires-clause-settings c =
       is_chained = not c.in-Some.asked.is_unchained;
       key_usage = c.in-Some.asked.key_usage;
       allows_version_1 = c.in-Some.asked.allows_version_1;
+      constrain_common_names = c.in-Some.asked.constrain_common_names;
     } in
     let front : octets_of c.split_at.result.0.now ≡ set_of named =
     ap octets_of (c.split_at.ensures.front ∙ ap (take c.in-Ok-lists_of.count) c.as_slice.ensures.value) ∙ c.in-Ok-lists_of.ensures.policies in

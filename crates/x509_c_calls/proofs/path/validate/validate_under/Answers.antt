@@ -33,6 +33,7 @@ returns c trust lends =
       is_chained = not c.in-Some.asked.is_unchained;
       key_usage = c.in-Some.asked.key_usage;
       allows_version_1 = c.in-Some.asked.allows_version_1;
+      constrain_common_names = c.in-Some.asked.constrain_common_names;
     } in
     let inputs : Inputs = record { trust = trust; moment = c.in-Some.asked.moment; constraints = c.in-Ok.ensures.0; asked = asked; purposes = unless_none purposes; uses = uses_of (bare_settings c.in-Some.asked) } in
     let front : octets_of c.split_at.result.0.now ≡ set_of named =

@@ -33,4 +33,4 @@ pub returns-in-Purpose : goal.returns-in-Purpose
 returns-in-Purpose g c = IfOk-weaker c.lacks_purpose.result _ _ (λ b said inputs above before n certificate stands knows own. rw c.in-Purpose.is (said inputs above before certificate stands knows.extensions)) c.lacks_purpose.ensures
 
 pub returns-in-Names : goal.returns-in-Names
-returns-in-Names g c = IfOk-weaker c.has_other_names.result _ _ (λ b said inputs above before n certificate stands knows own. rw c.in-Names.is (said inputs above before n certificate stands knows)) c.has_other_names.ensures
+returns-in-Names g c = IfOk-weaker c.breaks_names.result _ _ (λ b said inputs above before n certificate stands knows own. rw c.in-Names.is (said inputs above before n certificate stands knows)) c.breaks_names.ensures

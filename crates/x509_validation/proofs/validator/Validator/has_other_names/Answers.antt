@@ -5,12 +5,12 @@ use Rattle.x509_path.proofs.Lent.{differ}
 use Rattle.x509_validation.proofs.validator.Validator.has_other_names.Goals as goal
 
 pub returns-then-not-stand : goal.returns-then-not-stand
-returns-then-not-stand g c = λ inputs above before n certificate stands knows. (
+returns-then-not-stand g c = λ inputs above before certificate stands knows. (
   (λ never. absurd (true≢false (sym never))),
   (λ (asked, denied). absurd (denied (no_limits inputs before certificate stands.constraints stands.collects (stands.applied.none c.if-not-stand.true)))),
 )
 
 pub returns : goal.returns
-returns g c = λ inputs above before n certificate stands knows.
+returns g c = λ inputs above before certificate stands knows.
     let other = differ c.in_ok-are_allowed.are_allowed (c.in_ok-are_allowed.ensures inputs above before certificate stands knows) in
     ((λ is. ((c.in_ok-is_asked.ensures certificate knows.lends).0 c.if-not-branch.false, other.0 is)), (λ (asked, denied). other.1 denied))

@@ -2,6 +2,7 @@ use Rattle.std.proofs.Common.{◌≡◌, ◌∙◌, ◌+◌, ◌∷◌, ℕ, Lis
 use Rattle.std.proofs.lemmas.Bool.{true≢false}
 use Rattle.std.proofs.lemmas.Grind.{merely}
 use Rattle.std.proofs.lemmas.List.{length-map}
+use Rattle.std.proofs.lemmas.List.Sorted.{IsPermutation-trans}
 use Rattle.std.proofs.lemmas.Slice.{pushed}
 use Rattle.x509_match.specs.declared.key.MatchedName.{MatchedName}
 use Rattle.x509_path.specs.Lent.{Lends}
@@ -44,10 +45,10 @@ loop-bytes-preserved c =
 pub invariant_of-result : goal.invariant_of-result
 invariant_of-result c =
     let all = gathered_all bytes_of IsDecodable IsUnderSubject (map (λ (one : Bor (List ℕ)). one.now) c.args.candidates.now) c.loop-bytes.bytes-index c.loop-bytes.entries.items c.in_ok-in_order.field-0.items c.loop-bytes.invariant
-    (omega (arith, length-map c.args.candidates.now (λ (one : Bor (List ℕ)). one.now), c.loop-bytes-test.false)) c.in_ok-in_order.ensures.same in
+    (omega (arith, length-map c.args.candidates.now (λ (one : Bor (List ℕ)). one.now), c.loop-bytes-test.false)) (IsPermutation-trans _ _ _ c.in_ok-latest_first.ensures c.in_ok-in_order.ensures.same) in
     record { order = c.in_ok-in_order.ensures.order; named = merely all.0 }
 
 pub returns : goal.returns
 returns c =
     (gathered_all bytes_of IsDecodable IsUnderSubject (map (λ (one : Bor (List ℕ)). one.now) c.args.candidates.now) c.loop-bytes.bytes-index c.loop-bytes.entries.items c.in_ok-in_order.field-0.items c.loop-bytes.invariant
-    (omega (arith, length-map c.args.candidates.now (λ (one : Bor (List ℕ)). one.now), c.loop-bytes-test.false)) c.in_ok-in_order.ensures.same).1
+    (omega (arith, length-map c.args.candidates.now (λ (one : Bor (List ℕ)). one.now), c.loop-bytes-test.false)) (IsPermutation-trans _ _ _ c.in_ok-latest_first.ensures c.in_ok-in_order.ensures.same)).1

@@ -13,8 +13,8 @@ use Rattle.x509_verify.specs.declared.progress.Progress.{Progress}
 use Rattle.x509_verify.proofs.Attempting.{found, right_after, tried, why_refused, why_unsigned}
 use Rattle.x509_verify.proofs.search.Search.attempt.Goals as goal
 
-pub returns-in-Err : goal.returns-in-Err
-returns-in-Err g c = λ wanted same is_trusted on right.
+pub returns-in-Err-clause-tells : goal.returns-in-Err-clause-tells
+returns-in-Err-clause-tells g c = λ wanted same is_trusted on right.
     let accepts = g.V.SliceVerifier.accepts c.args.self.now.verifier.now in
     let path = octets c.args.path.now in
     let why = why_refused accepts wanted c.args.trusted.now path is_trusted on (λ v bytes spells. (_, c.signed_bytes_spell_the_signed_part.ensures.found v bytes spells)) c.in-Err.fault (λ is. true≢false (subst (λ f. fault_eq.ghosts.eq f Memory ≡ false) is (sym c.eq.ensures ∙ c.if-eq.false)))
@@ -29,8 +29,8 @@ returns-in-Err g c = λ wanted same is_trusted on right.
       answer = tried accepts wanted c.args.trusted.now path is_trusted on c.in-Err.fault c.note.new.noted c.in_ok-note-in-Err.ensures.some why;
     }
 
-pub returns-in-Some : goal.returns-in-Some
-returns-in-Some g c = λ wanted same is_trusted on right.
+pub returns-in-Some-clause-tells : goal.returns-in-Some-clause-tells
+returns-in-Some-clause-tells g c = λ wanted same is_trusted on right.
     let accepts = g.V.SliceVerifier.accepts c.args.self.now.verifier.now in
     let path = octets c.args.path.now in
     let asked = c.in_ok-unsigned.ensures.remembered right.asked in
@@ -46,8 +46,8 @@ returns-in-Some g c = λ wanted same is_trusted on right.
       answer = tried accepts wanted c.args.trusted.now path is_trusted on (At c.in-Some.place Signature) c.note-in-Some.new.noted c.in_ok-note.ensures.some why;
     }
 
-pub returns : goal.returns
-returns g c = λ wanted same is_trusted on right.
+pub returns-clause-tells : goal.returns-clause-tells
+returns-clause-tells g c = λ wanted same is_trusted on right.
     let accepts = g.V.SliceVerifier.accepts c.args.self.now.verifier.now in
     let path = octets c.args.path.now in
     let it : Found = record { trusted = c.args.trusted.now; path = c.in_ok-from_slice.field-0; validated = c.in-Ok.validated } in record {
