@@ -1,4 +1,4 @@
-"""What include/x509.h declares: its calls with their parameters and the statuses that they may answer, its structs, and its statuses."""
+"""What include/x509.h declares: its calls with their parameters, what is said of them and the statuses that they may answer, its structs, and its numbers."""
 import dataclasses
 import pathlib
 import re
@@ -6,6 +6,9 @@ import re
 TOP = pathlib.Path(__file__).resolve().parents[2]
 HEADER = TOP / "include" / "x509.h"
 COMMENT = re.compile(r"/\*.*?\*/", re.S)
+CONSTANT = re.compile(r"^#define (X509_\w+) +(\(?-?\w+\)?)[ \t]*$", re.M)
+# what a comment says last of its calls
+ANSWERS = re.compile(r"\bAnswers ([^.]*)\.")
 
 
 @dataclasses.dataclass(frozen=True)
@@ -25,6 +28,7 @@ class Call:
     answer: str
     parameters: tuple[Parameter, ...]
     statuses: tuple[str, ...]  # of its comment's last sentence, Answers ..; of a call that answers no status none
+    said: str = ""  # the rest of its comment, in one line; nothing where that is of a whole section
 
 
 def without_comments(text):
@@ -46,13 +50,15 @@ def parameters(text):
 def calls(text=None):
     """The calls in the order of the header. A comment speaks of the prototypes between it and the next one."""
     text = HEADER.read_text(encoding="utf-8") if text is None else text
-    found, statuses = [], ()
+    found, statuses, said = [], (), ""
     for part in re.finditer(r"/\*.*?\*/|^(\w+) (x509_\w+)\(([^)]*)\);", text, re.S | re.M):
         if part[2] is None:
-            told = re.search(r"\bAnswers ([^.]*)\.", " ".join(part[0].replace("\n *", "\n").split()))
+            comment = " ".join(part[0].removeprefix("/*").removesuffix("*/").replace("\n *", "\n").split())
+            told = ANSWERS.search(comment)
             statuses = tuple(told[1].split(", ")) if told else ()
+            said = "" if comment.startswith("----") else comment[: told.start() if told else None].strip()
         else:
-            found.append(Call(part[2], part[1], parameters(part[3]), statuses))
+            found.append(Call(part[2], part[1], parameters(part[3]), statuses, said))
     return found
 
 
@@ -61,6 +67,12 @@ def structs(text=None):
     text = without_comments(HEADER.read_text(encoding="utf-8") if text is None else text)
     found = re.finditer(r"typedef struct \{([^}]*)\} (\w+);", text)
     return {it[2]: tuple(parameter(field) for field in it[1].split(";") if field.strip()) for it in found}
+
+
+def constants(text=None):
+    """The constants that are numbers, each as it is written, but those of the version."""
+    text = without_comments(HEADER.read_text(encoding="utf-8") if text is None else text)
+    return {name: number for name, number in CONSTANT.findall(text) if not name.startswith("X509_VERSION")}
 
 
 def statuses(text=None):

@@ -6,15 +6,13 @@ import re
 import subprocess
 import tempfile
 
-from common.header import HEADER, TOP, calls, structs, without_comments
+from common.header import HEADER, TOP, calls, constants, structs
 from common.version import FORM, parsed
 
 LIST = TOP / "include" / "abi.txt"
 HEAD = """# The C interface of include/x509.h on x86_64 Linux: calls, constants, and structs with their sizes and offsets, each behind the version that it came
 # with. `tools/gate/check_abi.py --write` makes it.
 """
-CONSTANT = re.compile(r"^#define (X509_\w+) +\(?-?\w+\)?[ \t]*$", re.M)
-NUMBERS = "X509_VERSION"
 
 
 @dataclasses.dataclass(frozen=True)
@@ -23,11 +21,6 @@ class Entry:
 
     name: str
     form: str
-
-
-def constants(text):
-    """The names of the constants, but those of the version."""
-    return [it for it in CONSTANT.findall(without_comments(text)) if not it.startswith(NUMBERS)]
 
 
 def asking(text):

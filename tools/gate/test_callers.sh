@@ -3,9 +3,9 @@
 # extensions and on paths, under valgrind and with sanitizers where these are there. What isn't installed is left out, with a line that says so. What
 # they print is compared with what Python's `cryptography` says (examples/data/make.py), and with what tools/robustness/hostile_payloads.py and
 # examples/data/make_path.py state by hand. Before that it checks the rows, the snippets of README.md, the names in docs/PROMISES.md and
-# docs/OPERATIONS.md, the files that the pages name, docs/RULES.md, the checks of types, that each wrong body can be applied, the version and the C
-# interface; and it asks each call of the header about spoilt inputs, and whether each of its answers, and each of those of the crates' own calls, is
-# seen by a test.
+# docs/OPERATIONS.md, the files that the pages name, docs/RULES.md, the checks of types, that each wrong body can be applied, the version, the C
+# interface and what the packages declare of it; and it asks each call of the header about spoilt inputs, and whether each of its answers, and each of
+# those of the crates' own calls, is seen by a test.
 set -eu
 top=$(cd "$(dirname "${BASH_SOURCE[0]}")/../.." && pwd)
 gate=$top/tools/gate
@@ -188,6 +188,7 @@ if has python3 \
     python3 -B "$gate/list_types.py" --check || failed=1
     python3 -B "$gate/list_promises.py" --check || failed=1
     python3 -B "$gate/list_definitions.py" --check || failed=1
+    python3 -B "$top/tools/build/make_bindings.py" --check || failed=1
     python3 -B "$gate/wrong_bodies.py" --check || failed=1
     python3 -B "$gate/check_version.py" || failed=1
     python3 -B "$gate/test_first_command.py" real || failed=1

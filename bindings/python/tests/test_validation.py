@@ -139,6 +139,48 @@ class Validation(unittest.TestCase):
         other = made("CN=Root", "O=CA,C=DE", OTHER_KEY, CA, network)
         self.assertEqual(len(ours.validate_path(ROOT, [other, bad], NOW, accepts).certificates), 2)
 
+    def test_common_names(self) -> None:
+        alternative = ours.SubjectAlternativeName
+        network = ours.IPAddress(ipaddress.ip_network("192.0.2.0/24"))
+        host = ours.NameConstraints(None, [ours.DNSName("host.example.com")])
+        refused: list[tuple[ours.NameConstraints, str, list[ours.ExtensionType]]] = [
+            (EXAMPLE, "CN=www.example.com", []),
+            (EXAMPLE, "CN=www.example.org,CN=WWW.EXAMPLE.COM", []),
+            (EXAMPLE, "CN=www.example.org+CN=www.example.com.", []),
+            # a BMPString, and a UTF8String with spaces at its ends
+            (EXAMPLE, "2.5.4.3=#1e0800610062002e0063", []),
+            (EXAMPLE, "2.5.4.3=#0c0520612e6220", []),
+            # a wildcard that stands for a host which is excluded
+            (host, "CN=*.example.com", []),
+            (permitted(network), "CN=198.51.100.1", []),
+            (permitted(network), "CN=2001:db8::1", []),
+            # a SAN with names of other forms alone
+            (EXAMPLE, "CN=www.example.com", [alternative([ours.IPAddress(ipaddress.ip_address("192.0.2.1"))])]),
+        ]
+        allowed: list[tuple[ours.NameConstraints, str, list[ours.ExtensionType]]] = [
+            (EXAMPLE, "CN=www.example.org", []),
+            (EXAMPLE, "CN=Example Company", []),
+            (EXAMPLE, "O=www.example.com", []),
+            # an address is asked as one alone
+            (EXAMPLE, "CN=198.51.100.1", []),
+            (permitted(network), "CN=192.0.2.7", []),
+            (permitted(network), "CN=www.example.com", []),
+            (host, "CN=*.example.org", []),
+            # a SAN with a name of that form
+            (EXAMPLE, "CN=www.example.com", [alternative([ours.DNSName("example.org")])]),
+        ]
+        for constraints, subject, extensions in refused + allowed:
+            path = [made("CN=Root", "O=CA,C=DE", OTHER_KEY, CA, constraints), made("O=CA,C=DE", subject, KEY, *extensions)]
+            with self.subTest(subject):
+                self.assertEqual(len(ours.validate_path(ROOT, path, NOW, accepts).certificates), 2)
+                if (constraints, subject, extensions) in allowed:
+                    self.assertEqual(len(ours.validate_path(ROOT, path, NOW, accepts, constrain_common_names=True).certificates), 2)
+                else:
+                    self.assertEqual(self.fault(ROOT, path, NOW, accepts, constrain_common_names=True), (1, NAMES))
+        # of the last certificate alone
+        path = [made("CN=Root", "CN=www.example.com", OTHER_KEY, CA), made("CN=www.example.com", "CN=www.example.org", KEY)]
+        self.assertEqual(len(ours.validate_path(CONSTRAINED, path, NOW, accepts, constrain_common_names=True).certificates), 2)
+
     def test_what_cannot_be_followed(self) -> None:
         policies = ours.UnrecognizedExtension(ours.ExtensionOID.CERTIFICATE_POLICIES, b"\x05\x00")
         self.assertEqual(self.fault(ROOT, [made("CN=Root", "CN=S", KEY, policies)], NOW, accepts), (0, EXTENSION))
@@ -377,6 +419,7 @@ class Arguments(unittest.TestCase):
         "is_chained": [(True, (0, PURPOSE))],
         "key_usage": [(ours.KeyUsage(key_agreement=True), (1, USAGE))],
         "allows_version_1": [(False, (0, NOT_CA))],
+        "constrain_common_names": [(True, (1, NAMES))],
     }
     # paths on which a setting tells
     ASKED: dict[str, dict[str, Any]] = {
@@ -398,6 +441,7 @@ class Arguments(unittest.TestCase):
         "is_chained": {"path": [FOR_CODE, for_purposes(SERVERS)], "purposes": [SERVERS], "is_chained": False},
         "key_usage": {"path": [AUTHORITY, made("O=CA,C=DE", "CN=S", KEY, ours.KeyUsage(digital_signature=True))]},
         "allows_version_1": {"path": [OLD, server("a")], "allows_version_1": True},
+        "constrain_common_names": {"anchor": CONSTRAINED, "path": [AUTHORITY, made("O=CA,C=DE", "CN=www.example.com", KEY)]},
     }
     REFUSED: dict[str, list[tuple[Any, type[Exception]]]] = {
         "anchor": [
@@ -419,6 +463,7 @@ class Arguments(unittest.TestCase):
         "is_chained": [(1, TypeError), (None, TypeError)],
         "key_usage": [(1, TypeError), (ours.KeyUsage, TypeError)],
         "allows_version_1": [(1, TypeError), (None, TypeError)],
+        "constrain_common_names": [(1, TypeError), (None, TypeError)],
     }
 
     def test_each_has_a_row(self) -> None:

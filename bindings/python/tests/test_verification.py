@@ -15,7 +15,7 @@ from typing import Any, Iterable
 import x509_cert as ours
 import x509_cert as x509
 from x509_cert import finding, verification
-from x509_cert._library import FAULT
+from x509_cert._header import FAULT
 from x509_cert.path import _verifies as path_verifies
 
 try:
@@ -213,6 +213,20 @@ class Found(unittest.TestCase):
         for depth in (-1, 256):
             with self.assertRaises(ValueError):
                 self.find(given, self.end, max_depth=depth)
+
+    def test_the_candidate_whose_key_is_named_is_tried_first(self) -> None:
+        # later ones of other keys would each take a signature that doesn't hold
+        others = [self.upper.issue(Authority("Lower"), begins=NOW - HOUR) for _ in range(5)]
+        given = [self.one, self.two, *others]
+        for seed in range(8):
+            random.Random(seed).shuffle(given)
+            self.assertEqual(len(self.find(given, self.end, max_signatures=3).path.certificates), 3)
+
+    def test_of_certificates_of_one_key_the_latest_is_tried_first(self) -> None:
+        given = [self.one, self.two, *(self.root.issue(self.upper, begins=NOW - days * DAY) for days in (9, 3, 5))]
+        for seed in range(8):
+            random.Random(seed).shuffle(given)
+            self.assertEqual(bytes_of(self.find(given, self.end).path.certificates), [der(it) for it in (self.one, self.two, self.end)])
 
     def test_twenty_cross_signed_pairs_without_an_anchor(self) -> None:
         pairs = [(Authority(f"A{place}"), Authority(f"A{place}")) for place in range(20)]

@@ -58,9 +58,9 @@ impl<'a> TrustAnchor<'a> {
             span.of(der)?;
         }
         let kind = match view.kind {
-            0 => AnchorKind::Certificate,
-            1 => AnchorKind::TbsCertificate,
-            2 => AnchorKind::Info,
+            ffi::ANCHOR_CERTIFICATE => AnchorKind::Certificate,
+            ffi::ANCHOR_TBS_CERTIFICATE => AnchorKind::TbsCertificate,
+            ffi::ANCHOR_INFO => AnchorKind::Info,
             _ => return Err(Error::Unexpected),
         };
         Ok(TrustAnchor { der, kind, view })

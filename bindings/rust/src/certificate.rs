@@ -9,7 +9,7 @@ use crate::key::{AlgorithmIdentifier, PublicKey};
 use crate::lint::{self, Finding};
 use crate::name::NameRef;
 use crate::oid::ObjectIdentifier;
-use crate::owned::traits_by_der;
+use crate::owned::{as_borrowed, traits_by_der};
 use crate::peer::{EmailAddress, ServerName};
 use crate::time::moment;
 use std::fmt;
@@ -473,70 +473,48 @@ impl Certificate {
         self.der
     }
 
-    /// Its version.
-    pub fn version(&self) -> Version {
-        self.to_ref().version()
-    }
+    as_borrowed! {
+        /// Its version.
+        pub fn version(&self) -> Version;
 
-    /// Its serial number.
-    pub fn serial_number(&self) -> Integer<'_> {
-        self.to_ref().serial_number()
-    }
+        /// Its serial number.
+        pub fn serial_number(&self) -> Integer<'_>;
 
-    /// The name of its issuer.
-    pub fn issuer(&self) -> NameRef<'_> {
-        self.to_ref().issuer()
-    }
+        /// The name of its issuer.
+        pub fn issuer(&self) -> NameRef<'_>;
 
-    /// The name of its subject.
-    pub fn subject(&self) -> NameRef<'_> {
-        self.to_ref().subject()
-    }
+        /// The name of its subject.
+        pub fn subject(&self) -> NameRef<'_>;
 
-    /// From when on it holds, and until when.
-    pub fn validity(&self) -> Validity {
-        self.to_ref().validity()
-    }
+        /// From when on it holds, and until when.
+        pub fn validity(&self) -> Validity;
 
-    /// The key and its algorithm: a whole SubjectPublicKeyInfo.
-    pub fn subject_public_key_info(&self) -> &[u8] {
-        self.to_ref().subject_public_key_info()
-    }
+        /// The key and its algorithm: a whole SubjectPublicKeyInfo.
+        pub fn subject_public_key_info(&self) -> &[u8];
 
-    /// The key, by its kind and its bits.
-    ///
-    /// # Errors
-    /// [`Error::Memory`].
-    pub fn public_key(&self) -> Result<PublicKey<'_>, Error> {
-        self.to_ref().public_key()
-    }
+        /// The key, by its kind and its bits.
+        ///
+        /// # Errors
+        /// [`Error::Memory`].
+        pub fn public_key(&self) -> Result<PublicKey<'_>, Error>;
 
-    /// The algorithm in the signed part, a whole AlgorithmIdentifier, which is to be that of the signature (RFC 5280 4.1.1.2). Whether it is isn't looked at.
-    pub fn inner_algorithm(&self) -> &[u8] {
-        self.to_ref().inner_algorithm()
-    }
+        /// The algorithm in the signed part, a whole AlgorithmIdentifier, which is to be that of the signature (RFC 5280 4.1.1.2). Whether it is isn't looked at.
+        pub fn inner_algorithm(&self) -> &[u8];
 
-    /// A further name of its issuer (RFC 5280 4.1.2.8).
-    pub fn issuer_unique_id(&self) -> Option<UniqueIdentifier<'_>> {
-        self.to_ref().issuer_unique_id()
-    }
+        /// A further name of its issuer (RFC 5280 4.1.2.8).
+        pub fn issuer_unique_id(&self) -> Option<UniqueIdentifier<'_>>;
 
-    /// A further name of its subject (RFC 5280 4.1.2.8).
-    pub fn subject_unique_id(&self) -> Option<UniqueIdentifier<'_>> {
-        self.to_ref().subject_unique_id()
-    }
+        /// A further name of its subject (RFC 5280 4.1.2.8).
+        pub fn subject_unique_id(&self) -> Option<UniqueIdentifier<'_>>;
 
-    /// Its extensions, in order.
-    pub fn extensions(&self) -> Extensions<'_> {
-        self.to_ref().extensions()
-    }
+        /// Its extensions, in order.
+        pub fn extensions(&self) -> Extensions<'_>;
 
-    /// Its extension with an identifier.
-    ///
-    /// # Errors
-    /// As of [`CertificateRef::extension`].
-    pub fn extension(&self, oid: ObjectIdentifier) -> Result<Option<Extension<'_>>, Error> {
-        self.to_ref().extension(oid)
+        /// Its extension with an identifier.
+        ///
+        /// # Errors
+        /// As of [`CertificateRef::extension`].
+        pub fn extension(&self, oid: ObjectIdentifier) -> Result<Option<Extension<'_>>, Error>;
     }
 
     /// What its extension of a type holds, and whether that is critical.
@@ -547,119 +525,90 @@ impl Certificate {
         self.to_ref().get()
     }
 
-    /// What the key may be used for.
-    ///
-    /// # Errors
-    /// As of [`CertificateRef::get`].
-    pub fn key_usage(&self) -> Result<Option<KeyUsage>, Error> {
-        self.to_ref().key_usage()
-    }
+    as_borrowed! {
+        /// What the key may be used for.
+        ///
+        /// # Errors
+        /// As of [`CertificateRef::get`].
+        pub fn key_usage(&self) -> Result<Option<KeyUsage>, Error>;
 
-    /// Whether the key may sign certificates, and how many authorities may follow.
-    ///
-    /// # Errors
-    /// As of [`CertificateRef::get`].
-    pub fn basic_constraints(&self) -> Result<Option<BasicConstraints>, Error> {
-        self.to_ref().basic_constraints()
-    }
+        /// Whether the key may sign certificates, and how many authorities may follow.
+        ///
+        /// # Errors
+        /// As of [`CertificateRef::get`].
+        pub fn basic_constraints(&self) -> Result<Option<BasicConstraints>, Error>;
 
-    /// Further names of the subject.
-    ///
-    /// # Errors
-    /// As of [`CertificateRef::get`].
-    pub fn subject_alt_name(&self) -> Result<Option<SubjectAltName<'_>>, Error> {
-        self.to_ref().subject_alt_name()
-    }
+        /// Further names of the subject.
+        ///
+        /// # Errors
+        /// As of [`CertificateRef::get`].
+        pub fn subject_alt_name(&self) -> Result<Option<SubjectAltName<'_>>, Error>;
 
-    /// Whether it is that of the server (RFC 9525 6), as of [`CertificateRef::matches_name`].
-    ///
-    /// # Errors
-    /// None but [`Error::Unexpected`].
-    pub fn matches_name(&self, name: &ServerName) -> Result<bool, Error> {
-        self.to_ref().matches_name(name)
-    }
+        /// Whether it is that of the server (RFC 9525 6), as of [`CertificateRef::matches_name`].
+        ///
+        /// # Errors
+        /// None but [`Error::Unexpected`].
+        pub fn matches_name(&self, name: &ServerName) -> Result<bool, Error>;
 
-    /// Whether it is that of the mailbox (RFC 5280 7.5), as of [`CertificateRef::matches_email`].
-    ///
-    /// # Errors
-    /// None but [`Error::Unexpected`].
-    pub fn matches_email(&self, address: &EmailAddress) -> Result<bool, Error> {
-        self.to_ref().matches_email(address)
-    }
+        /// Whether it is that of the mailbox (RFC 5280 7.5), as of [`CertificateRef::matches_email`].
+        ///
+        /// # Errors
+        /// None but [`Error::Unexpected`].
+        pub fn matches_email(&self, address: &EmailAddress) -> Result<bool, Error>;
 
-    /// The bytes that the signature is over, as they stand in the DER: a whole TBSCertificate.
-    ///
-    /// # Errors
-    /// None but [`Error::Unexpected`].
-    pub fn tbs_certificate(&self) -> Result<&[u8], Error> {
-        self.to_ref().tbs_certificate()
-    }
+        /// The bytes that the signature is over, as they stand in the DER: a whole TBSCertificate.
+        ///
+        /// # Errors
+        /// None but [`Error::Unexpected`].
+        pub fn tbs_certificate(&self) -> Result<&[u8], Error>;
 
-    /// What is to be verified of it.
-    ///
-    /// # Errors
-    /// [`Error::Memory`].
-    pub fn signature(&self) -> Result<Signature<'_>, Error> {
-        self.to_ref().signature()
-    }
+        /// What is to be verified of it.
+        ///
+        /// # Errors
+        /// [`Error::Memory`].
+        pub fn signature(&self) -> Result<Signature<'_>, Error>;
 
-    /// Its DER with the dates as RFC 5280 4.1.2.5 spells them. Where that isn't how they stood, the signature doesn't hold of these bytes.
-    ///
-    /// # Errors
-    /// [`Error::Memory`].
-    pub fn canonical_der(&self) -> Result<Vec<u8>, Error> {
-        self.to_ref().canonical_der()
-    }
+        /// Its DER with the dates as RFC 5280 4.1.2.5 spells them. Where that isn't how they stood, the signature doesn't hold of these bytes.
+        ///
+        /// # Errors
+        /// [`Error::Memory`].
+        pub fn canonical_der(&self) -> Result<Vec<u8>, Error>;
 
-    /// All that it has, as lines for people.
-    ///
-    /// # Errors
-    /// As of [`CertificateRef::to_text`].
-    pub fn to_text(&self) -> Result<String, Error> {
-        self.to_ref().to_text()
-    }
+        /// All that it has, as lines for people.
+        ///
+        /// # Errors
+        /// As of [`CertificateRef::to_text`].
+        pub fn to_text(&self) -> Result<String, Error>;
 
-    /// The same lines as JSON.
-    ///
-    /// # Errors
-    /// As of [`CertificateRef::to_json`].
-    pub fn to_json(&self) -> Result<String, Error> {
-        self.to_ref().to_json()
-    }
+        /// The same lines as JSON.
+        ///
+        /// # Errors
+        /// As of [`CertificateRef::to_json`].
+        pub fn to_json(&self) -> Result<String, Error>;
 
-    /// The TBSCertificate that a log has of the certificate.
-    ///
-    /// # Errors
-    /// As of [`CertificateRef::logged_part`].
-    pub fn logged_part(&self) -> Result<Vec<u8>, Error> {
-        self.to_ref().logged_part()
-    }
+        /// The TBSCertificate that a log has of the certificate.
+        ///
+        /// # Errors
+        /// As of [`CertificateRef::logged_part`].
+        pub fn logged_part(&self) -> Result<Vec<u8>, Error>;
 
-    /// The TBSCertificate that a log has of the precertificate.
-    ///
-    /// # Errors
-    /// As of [`CertificateRef::logged_precertificate`].
-    pub fn logged_precertificate(&self) -> Result<Vec<u8>, Error> {
-        self.to_ref().logged_precertificate()
-    }
+        /// The TBSCertificate that a log has of the precertificate.
+        ///
+        /// # Errors
+        /// As of [`CertificateRef::logged_precertificate`].
+        pub fn logged_precertificate(&self) -> Result<Vec<u8>, Error>;
 
-    /// The TBSCertificate that a log has of the precertificate, which a precertificate signing certificate signed.
-    ///
-    /// # Errors
-    /// As of [`CertificateRef::logged_precertificate_signed_by`].
-    pub fn logged_precertificate_signed_by(
-        &self,
-        signing: CertificateRef<'_>,
-    ) -> Result<Vec<u8>, Error> {
-        self.to_ref().logged_precertificate_signed_by(signing)
-    }
+        /// The TBSCertificate that a log has of the precertificate, which a precertificate signing certificate signed.
+        ///
+        /// # Errors
+        /// As of [`CertificateRef::logged_precertificate_signed_by`].
+        pub fn logged_precertificate_signed_by(&self, signing: CertificateRef<'_>) -> Result<Vec<u8>, Error>;
 
-    /// The rules that it breaks beyond the grammar.
-    ///
-    /// # Errors
-    /// As of [`CertificateRef::lint`].
-    pub fn lint(&self) -> Result<Vec<Finding>, Error> {
-        self.to_ref().lint()
+        /// The rules that it breaks beyond the grammar.
+        ///
+        /// # Errors
+        /// As of [`CertificateRef::lint`].
+        pub fn lint(&self) -> Result<Vec<Finding>, Error>;
     }
 }
 

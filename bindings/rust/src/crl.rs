@@ -9,7 +9,7 @@ use crate::integer::Integer;
 use crate::lint::{self, Finding};
 use crate::name::NameRef;
 use crate::oid::ObjectIdentifier;
-use crate::owned::traits_by_der;
+use crate::owned::{as_borrowed, traits_by_der};
 use crate::time::moment;
 use std::fmt;
 use std::time::SystemTime;
@@ -421,58 +421,42 @@ impl Crl {
         self.len == 0
     }
 
-    /// Its version: 1 or 2 as of RFC 5280 5.1.2.1, or 3.
-    pub fn version(&self) -> u32 {
-        self.to_ref().version()
-    }
+    as_borrowed! {
+        /// Its version: 1 or 2 as of RFC 5280 5.1.2.1, or 3.
+        pub fn version(&self) -> u32;
 
-    /// The algorithm in the signed part, a whole AlgorithmIdentifier, which is to be that of the signature (RFC 5280 5.1.1.2). Whether it is isn't looked at.
-    pub fn inner_algorithm(&self) -> &[u8] {
-        self.to_ref().inner_algorithm()
-    }
+        /// The algorithm in the signed part, a whole AlgorithmIdentifier, which is to be that of the signature (RFC 5280 5.1.1.2). Whether it is isn't looked at.
+        pub fn inner_algorithm(&self) -> &[u8];
 
-    /// The name of its issuer.
-    pub fn issuer(&self) -> NameRef<'_> {
-        self.to_ref().issuer()
-    }
+        /// The name of its issuer.
+        pub fn issuer(&self) -> NameRef<'_>;
 
-    /// When it was issued.
-    ///
-    /// # Errors
-    /// None but [`Error::Unexpected`].
-    pub fn this_update(&self) -> Result<SystemTime, Error> {
-        self.to_ref().this_update()
-    }
+        /// When it was issued.
+        ///
+        /// # Errors
+        /// None but [`Error::Unexpected`].
+        pub fn this_update(&self) -> Result<SystemTime, Error>;
 
-    /// By when the next one will be issued, where that is said.
-    ///
-    /// # Errors
-    /// None but [`Error::Unexpected`].
-    pub fn next_update(&self) -> Result<Option<SystemTime>, Error> {
-        self.to_ref().next_update()
-    }
+        /// By when the next one will be issued, where that is said.
+        ///
+        /// # Errors
+        /// None but [`Error::Unexpected`].
+        pub fn next_update(&self) -> Result<Option<SystemTime>, Error>;
 
-    /// Its entries, in order.
-    pub fn entries(&self) -> CrlEntries<'_> {
-        self.to_ref().entries()
-    }
+        /// Its entries, in order.
+        pub fn entries(&self) -> CrlEntries<'_>;
 
-    /// Its entries, in order, each with who issued its certificate, where it is an indirect CRL.
-    pub fn issued_entries(&self) -> IssuedEntries<'_> {
-        self.to_ref().issued_entries()
-    }
+        /// Its entries, in order, each with who issued its certificate, where it is an indirect CRL.
+        pub fn issued_entries(&self) -> IssuedEntries<'_>;
 
-    /// Its extensions, in order.
-    pub fn extensions(&self) -> Extensions<'_> {
-        self.to_ref().extensions()
-    }
+        /// Its extensions, in order.
+        pub fn extensions(&self) -> Extensions<'_>;
 
-    /// Its extension with an identifier.
-    ///
-    /// # Errors
-    /// As of [`CrlRef::extension`].
-    pub fn extension(&self, oid: ObjectIdentifier) -> Result<Option<Extension<'_>>, Error> {
-        self.to_ref().extension(oid)
+        /// Its extension with an identifier.
+        ///
+        /// # Errors
+        /// As of [`CrlRef::extension`].
+        pub fn extension(&self, oid: ObjectIdentifier) -> Result<Option<Extension<'_>>, Error>;
     }
 
     /// What its extension of a type holds, as its [`CrlNumber`](crate::extension::CrlNumber), and whether that is critical.
@@ -483,60 +467,48 @@ impl Crl {
         self.to_ref().get()
     }
 
-    /// What is to be verified of it.
-    ///
-    /// # Errors
-    /// None but [`Error::Unexpected`].
-    pub fn signature(&self) -> Result<Signature<'_>, Error> {
-        self.to_ref().signature()
-    }
+    as_borrowed! {
+        /// What is to be verified of it.
+        ///
+        /// # Errors
+        /// None but [`Error::Unexpected`].
+        pub fn signature(&self) -> Result<Signature<'_>, Error>;
 
-    /// The bytes that the signature is over, as they stand in the DER: a whole TBSCertList.
-    ///
-    /// # Errors
-    /// None but [`Error::Unexpected`].
-    pub fn tbs_cert_list(&self) -> Result<&[u8], Error> {
-        self.to_ref().tbs_cert_list()
-    }
+        /// The bytes that the signature is over, as they stand in the DER: a whole TBSCertList.
+        ///
+        /// # Errors
+        /// None but [`Error::Unexpected`].
+        pub fn tbs_cert_list(&self) -> Result<&[u8], Error>;
 
-    /// What the first entry with a serial number says, given by the content octets of an INTEGER. The issuer isn't compared (RFC 5280 5.3.3).
-    ///
-    /// # Errors
-    /// As of [`CrlRef::revocation`].
-    pub fn revocation(&self, serial_number: &[u8]) -> Result<Option<Revocation>, Error> {
-        self.to_ref().revocation(serial_number)
-    }
+        /// What the first entry with a serial number says, given by the content octets of an INTEGER. The issuer isn't compared (RFC 5280 5.3.3).
+        ///
+        /// # Errors
+        /// As of [`CrlRef::revocation`].
+        pub fn revocation(&self, serial_number: &[u8]) -> Result<Option<Revocation>, Error>;
 
-    /// The first entry with a serial number, given by the content octets of an INTEGER. The issuer isn't compared (RFC 5280 5.3.3).
-    ///
-    /// # Errors
-    /// As of [`CrlRef::entry`].
-    pub fn entry(&self, serial_number: &[u8]) -> Result<Option<CrlEntry<'_>>, Error> {
-        self.to_ref().entry(serial_number)
-    }
+        /// The first entry with a serial number, given by the content octets of an INTEGER. The issuer isn't compared (RFC 5280 5.3.3).
+        ///
+        /// # Errors
+        /// As of [`CrlRef::entry`].
+        pub fn entry(&self, serial_number: &[u8]) -> Result<Option<CrlEntry<'_>>, Error>;
 
-    /// All that it has, as lines for people.
-    ///
-    /// # Errors
-    /// As of [`CrlRef::to_text`].
-    pub fn to_text(&self) -> Result<String, Error> {
-        self.to_ref().to_text()
-    }
+        /// All that it has, as lines for people.
+        ///
+        /// # Errors
+        /// As of [`CrlRef::to_text`].
+        pub fn to_text(&self) -> Result<String, Error>;
 
-    /// The same lines as JSON.
-    ///
-    /// # Errors
-    /// As of [`CrlRef::to_json`].
-    pub fn to_json(&self) -> Result<String, Error> {
-        self.to_ref().to_json()
-    }
+        /// The same lines as JSON.
+        ///
+        /// # Errors
+        /// As of [`CrlRef::to_json`].
+        pub fn to_json(&self) -> Result<String, Error>;
 
-    /// The rules that it breaks beyond the grammar.
-    ///
-    /// # Errors
-    /// As of [`CrlRef::lint`].
-    pub fn lint(&self) -> Result<Vec<Finding>, Error> {
-        self.to_ref().lint()
+        /// The rules that it breaks beyond the grammar.
+        ///
+        /// # Errors
+        /// As of [`CrlRef::lint`].
+        pub fn lint(&self) -> Result<Vec<Finding>, Error>;
     }
 }
 

@@ -7,7 +7,7 @@ use crate::key::PublicKey;
 use crate::lint::{self, Finding};
 use crate::name::NameRef;
 use crate::oid::ObjectIdentifier;
-use crate::owned::traits_by_der;
+use crate::owned::{as_borrowed, traits_by_der};
 use std::fmt;
 
 /// An attribute of a CSR (RFC 2986 4.1), as a challenge password.
@@ -263,83 +263,63 @@ impl Csr {
         self.der
     }
 
-    /// The name of the subject.
-    pub fn subject(&self) -> NameRef<'_> {
-        self.to_ref().subject()
-    }
+    as_borrowed! {
+        /// The name of the subject.
+        pub fn subject(&self) -> NameRef<'_>;
 
-    /// The key and its algorithm: a whole SubjectPublicKeyInfo.
-    pub fn subject_public_key_info(&self) -> &[u8] {
-        self.to_ref().subject_public_key_info()
-    }
+        /// The key and its algorithm: a whole SubjectPublicKeyInfo.
+        pub fn subject_public_key_info(&self) -> &[u8];
 
-    /// The key, by its kind and its bits.
-    ///
-    /// # Errors
-    /// [`Error::Memory`].
-    pub fn public_key(&self) -> Result<PublicKey<'_>, Error> {
-        self.to_ref().public_key()
-    }
+        /// The key, by its kind and its bits.
+        ///
+        /// # Errors
+        /// [`Error::Memory`].
+        pub fn public_key(&self) -> Result<PublicKey<'_>, Error>;
 
-    /// Its attributes, in order.
-    pub fn attributes(&self) -> CsrAttributes<'_> {
-        self.to_ref().attributes()
-    }
+        /// Its attributes, in order.
+        pub fn attributes(&self) -> CsrAttributes<'_>;
 
-    /// Its attribute of a type; see [`oid::request`](crate::oid::request).
-    ///
-    /// # Errors
-    /// As of [`CsrRef::attribute`].
-    pub fn attribute(&self, oid: ObjectIdentifier) -> Result<Option<CsrAttribute<'_>>, Error> {
-        self.to_ref().attribute(oid)
-    }
+        /// Its attribute of a type; see [`oid::request`](crate::oid::request).
+        ///
+        /// # Errors
+        /// As of [`CsrRef::attribute`].
+        pub fn attribute(&self, oid: ObjectIdentifier) -> Result<Option<CsrAttribute<'_>>, Error>;
 
-    /// The extensions that it asks for (RFC 2985 5.4.2), in order; none where no attribute asks for any.
-    ///
-    /// # Errors
-    /// As of [`CsrRef::extensions`].
-    pub fn extensions(&self) -> Result<Extensions<'_>, Error> {
-        self.to_ref().extensions()
-    }
+        /// The extensions that it asks for (RFC 2985 5.4.2), in order; none where no attribute asks for any.
+        ///
+        /// # Errors
+        /// As of [`CsrRef::extensions`].
+        pub fn extensions(&self) -> Result<Extensions<'_>, Error>;
 
-    /// The bytes that the signature is over, as they stand in the DER: a whole CertificationRequestInfo.
-    ///
-    /// # Errors
-    /// None but [`Error::Unexpected`].
-    pub fn certification_request_info(&self) -> Result<&[u8], Error> {
-        self.to_ref().certification_request_info()
-    }
+        /// The bytes that the signature is over, as they stand in the DER: a whole CertificationRequestInfo.
+        ///
+        /// # Errors
+        /// None but [`Error::Unexpected`].
+        pub fn certification_request_info(&self) -> Result<&[u8], Error>;
 
-    /// What is to be verified of it, for its own key.
-    ///
-    /// # Errors
-    /// None but [`Error::Unexpected`].
-    pub fn signature(&self) -> Result<Signature<'_>, Error> {
-        self.to_ref().signature()
-    }
+        /// What is to be verified of it, for its own key.
+        ///
+        /// # Errors
+        /// None but [`Error::Unexpected`].
+        pub fn signature(&self) -> Result<Signature<'_>, Error>;
 
-    /// All that it has, as lines for people.
-    ///
-    /// # Errors
-    /// As of [`CsrRef::to_text`].
-    pub fn to_text(&self) -> Result<String, Error> {
-        self.to_ref().to_text()
-    }
+        /// All that it has, as lines for people.
+        ///
+        /// # Errors
+        /// As of [`CsrRef::to_text`].
+        pub fn to_text(&self) -> Result<String, Error>;
 
-    /// The same lines as JSON.
-    ///
-    /// # Errors
-    /// As of [`CsrRef::to_json`].
-    pub fn to_json(&self) -> Result<String, Error> {
-        self.to_ref().to_json()
-    }
+        /// The same lines as JSON.
+        ///
+        /// # Errors
+        /// As of [`CsrRef::to_json`].
+        pub fn to_json(&self) -> Result<String, Error>;
 
-    /// The rules that it breaks beyond the grammar.
-    ///
-    /// # Errors
-    /// As of [`CsrRef::lint`].
-    pub fn lint(&self) -> Result<Vec<Finding>, Error> {
-        self.to_ref().lint()
+        /// The rules that it breaks beyond the grammar.
+        ///
+        /// # Errors
+        /// As of [`CsrRef::lint`].
+        pub fn lint(&self) -> Result<Vec<Finding>, Error>;
     }
 }
 

@@ -65,17 +65,19 @@ impl<'a> GeneralName<'a> {
     pub(crate) fn found(view: &ffi::GeneralName, data: &'a [u8]) -> Result<GeneralName<'a>, Error> {
         let content = view.content.of(data)?;
         Ok(match view.kind {
-            0 => GeneralName::OtherName {
+            ffi::GENERAL_NAME_OTHER => GeneralName::OtherName {
                 type_id: ObjectIdentifier::found(view.type_id.of(data)?)?,
                 value: view.value.of(data)?,
             },
-            1 => GeneralName::Rfc822Name(text(content)?),
-            2 => GeneralName::DnsName(text(content)?),
-            4 => GeneralName::DirectoryName(NameRef::found(content)),
-            5 => GeneralName::EdiPartyName(content),
-            6 => GeneralName::UniformResourceIdentifier(text(content)?),
-            7 => GeneralName::IpAddress(content),
-            8 => GeneralName::RegisteredId(ObjectIdentifier::found(content)?),
+            ffi::GENERAL_NAME_EMAIL => GeneralName::Rfc822Name(text(content)?),
+            ffi::GENERAL_NAME_DNS => GeneralName::DnsName(text(content)?),
+            ffi::GENERAL_NAME_DIRECTORY => GeneralName::DirectoryName(NameRef::found(content)),
+            ffi::GENERAL_NAME_EDI_PARTY => GeneralName::EdiPartyName(content),
+            ffi::GENERAL_NAME_URI => GeneralName::UniformResourceIdentifier(text(content)?),
+            ffi::GENERAL_NAME_IP => GeneralName::IpAddress(content),
+            ffi::GENERAL_NAME_REGISTERED_ID => {
+                GeneralName::RegisteredId(ObjectIdentifier::found(content)?)
+            }
             _ => return Err(Error::Unexpected),
         })
     }

@@ -2,7 +2,7 @@
 use crate::error::{write_text, Error};
 use crate::ffi::{self, iterator, Members};
 use crate::oid::ObjectIdentifier;
-use crate::owned::traits_by_der;
+use crate::owned::{as_borrowed, traits_by_der};
 use crate::text::{place_in_name, placed};
 use std::borrow::Cow;
 use std::fmt;
@@ -175,38 +175,27 @@ impl Name {
         self.der
     }
 
-    /// Its text, the last relative name first, which [`Display`](fmt::Display) writes too.
-    ///
-    /// # Errors
-    /// As of [`NameRef::to_rfc4514`].
-    pub fn to_rfc4514(&self) -> Result<String, Error> {
-        self.to_ref().to_rfc4514()
-    }
+    as_borrowed! {
+        /// Its text, the last relative name first, which [`Display`](fmt::Display) writes too.
+        ///
+        /// # Errors
+        /// As of [`NameRef::to_rfc4514`].
+        pub fn to_rfc4514(&self) -> Result<String, Error>;
 
-    /// Its relative names, in the order of the DER.
-    pub fn rdns(&self) -> Rdns<'_> {
-        self.to_ref().rdns()
-    }
+        /// Its relative names, in the order of the DER.
+        pub fn rdns(&self) -> Rdns<'_>;
 
-    /// The attributes of all its relative names.
-    pub fn attributes(&self) -> NameAttributes<'_> {
-        self.to_ref().attributes()
-    }
+        /// The attributes of all its relative names.
+        pub fn attributes(&self) -> NameAttributes<'_>;
 
-    /// The attributes of a type.
-    pub fn attributes_for(
-        &self,
-        oid: ObjectIdentifier,
-    ) -> impl Iterator<Item = Result<AttributeTypeAndValue<'_>, Error>> + '_ {
-        self.to_ref().attributes_for(oid)
-    }
+        /// The attributes of a type.
+        pub fn attributes_for(&self, oid: ObjectIdentifier) -> impl Iterator<Item = Result<AttributeTypeAndValue<'_>, Error>> + '_;
 
-    /// The first attribute of a type, in the order of the DER, such as the CN.
-    ///
-    /// # Errors
-    /// As of [`NameRef::find`].
-    pub fn find(&self, oid: ObjectIdentifier) -> Result<Option<AttributeTypeAndValue<'_>>, Error> {
-        self.to_ref().find(oid)
+        /// The first attribute of a type, in the order of the DER, such as the CN.
+        ///
+        /// # Errors
+        /// As of [`NameRef::find`].
+        pub fn find(&self, oid: ObjectIdentifier) -> Result<Option<AttributeTypeAndValue<'_>>, Error>;
     }
 }
 

@@ -51,4 +51,16 @@ macro_rules! traits_by_der {
     };
 }
 
-pub(crate) use traits_by_der;
+/// Methods of an owned object that say what those of its borrowed form say by the same names.
+macro_rules! as_borrowed {
+    ($($(#[$said:meta])* pub fn $name:ident(&self $(, $given:ident: $kind:ty)*) -> $found:ty;)*) => {
+        $(
+            $(#[$said])*
+            pub fn $name(&self $(, $given: $kind)*) -> $found {
+                self.to_ref().$name($($given),*)
+            }
+        )*
+    };
+}
+
+pub(crate) use {as_borrowed, traits_by_der};

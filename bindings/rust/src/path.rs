@@ -409,12 +409,6 @@ pub struct PathSettings {
     flags: u64,
 }
 
-const EXPLICIT_POLICY: u64 = 1;
-const INHIBIT_POLICY_MAPPING: u64 = 2;
-const INHIBIT_ANY_POLICY: u64 = 4;
-const UNCHAINED: u64 = 8;
-const VERSION_1: u64 = 16;
-
 /// The purposes that settings have a bit for, in the order of these.
 const PURPOSES: [ObjectIdentifier; 6] = [
     purpose::SERVER_AUTH,
@@ -452,24 +446,25 @@ impl PathSettings {
         self
     }
 
-    fn flag(&mut self, flag: u64, is_set: bool) -> &mut PathSettings {
+    fn flag(&mut self, flag: u32, is_set: bool) -> &mut PathSettings {
+        let flag = u64::from(flag);
         self.flags = self.flags & !flag | if is_set { flag } else { 0 };
         self
     }
 
     /// Whether it is to be valid under one of the accepted policies at least (RFC 5280 6.1.1 (f)).
     pub fn require_explicit_policy(&mut self, is_asked: bool) -> &mut PathSettings {
-        self.flag(EXPLICIT_POLICY, is_asked)
+        self.flag(ffi::PATH_EXPLICIT_POLICY, is_asked)
     }
 
     /// Whether policies may not be mapped (RFC 5280 6.1.1 (e)).
     pub fn inhibit_policy_mapping(&mut self, is_asked: bool) -> &mut PathSettings {
-        self.flag(INHIBIT_POLICY_MAPPING, is_asked)
+        self.flag(ffi::PATH_INHIBIT_POLICY_MAPPING, is_asked)
     }
 
     /// Whether any-policy in a certificate counts for nothing (RFC 5280 6.1.1 (g)).
     pub fn inhibit_any_policy(&mut self, is_asked: bool) -> &mut PathSettings {
-        self.flag(INHIBIT_ANY_POLICY, is_asked)
+        self.flag(ffi::PATH_INHIBIT_ANY_POLICY, is_asked)
     }
 
     /// That it is for one of these purposes, any of them (RFC 5280 4.2.1.12): one purpose has to be allowed by the ExtendedKeyUsage of all certificates that
@@ -481,7 +476,7 @@ impl PathSettings {
 
     /// Whether purposes are asked of all certificates, as they are by [`new`](PathSettings::new), and not of the last one alone.
     pub fn chain_purposes(&mut self, is_chained: bool) -> &mut PathSettings {
-        self.flag(UNCHAINED, !is_chained)
+        self.flag(ffi::PATH_UNCHAINED, !is_chained)
     }
 
     /// That the last certificate has these usages, where it has a KeyUsage (RFC 5280 4.2.1.3).
@@ -492,7 +487,14 @@ impl PathSettings {
 
     /// Whether certificates of version 1 are authorities (RFC 5280 6.1.4 (k)), which the caller then knows of those given.
     pub fn allow_version_1(&mut self, is_allowed: bool) -> &mut PathSettings {
-        self.flag(VERSION_1, is_allowed)
+        self.flag(ffi::PATH_VERSION_1_AUTHORITIES, is_allowed)
+    }
+
+    /// Whether names of servers in the last certificate's common names are asked under name constraints, as those of its SAN are (RFC 5280 4.2.1.10): a host, a
+    /// wildcard of hosts or an IP address, each where the SAN has no dNSName, or no iPAddress (RFC 6125 6.4.4). RFC 5280 asks none: it is for callers that take
+    /// a peer by its common name.
+    pub fn constrain_common_names(&mut self, is_asked: bool) -> &mut PathSettings {
+        self.flag(ffi::PATH_CONSTRAIN_COMMON_NAMES, is_asked)
     }
 
     fn to_ffi(&self) -> Result<ffi::PathSettings, Error> {

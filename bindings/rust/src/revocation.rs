@@ -45,11 +45,11 @@ pub enum RevocationStatus {
 impl RevocationStatus {
     fn found(answer: &ffi::RevocationAnswer) -> Result<RevocationStatus, Error> {
         match answer.status {
-            0 => Ok(RevocationStatus::Undetermined {
+            ffi::UNDETERMINED => Ok(RevocationStatus::Undetermined {
                 reasons: ReasonFlags(answer.reasons),
             }),
-            1 => Ok(RevocationStatus::Unrevoked),
-            2 => Ok(RevocationStatus::Revoked {
+            ffi::UNREVOKED => Ok(RevocationStatus::Unrevoked),
+            ffi::REVOKED => Ok(RevocationStatus::Revoked {
                 crl: answer.crl,
                 date: moment(answer.date)?,
                 reason: CrlReason::found(answer.reason)?,
@@ -130,9 +130,6 @@ pub struct RevocationSettings {
     flags: u64,
 }
 
-const WITHOUT_NEXT_UPDATE: u64 = 1;
-const USE_DELTAS: u64 = 2;
-
 impl RevocationSettings {
     /// What they say of the moment. A CRL is in date that says by when the next one will be issued.
     pub fn new(moment: SystemTime) -> RevocationSettings {
@@ -146,20 +143,21 @@ impl RevocationSettings {
         })
     }
 
-    fn flag(&mut self, flag: u64, is_set: bool) -> &mut RevocationSettings {
+    fn flag(&mut self, flag: u32, is_set: bool) -> &mut RevocationSettings {
+        let flag = u64::from(flag);
         self.flags = self.flags & !flag | if is_set { flag } else { 0 };
         self
     }
 
     /// Whether a CRL is in date, too, that doesn't say by when the next one will be issued, which RFC 5280 5.1.2.5 wants each to say.
     pub fn without_next_update(&mut self, is_taken: bool) -> &mut RevocationSettings {
-        self.flag(WITHOUT_NEXT_UPDATE, is_taken)
+        self.flag(ffi::REVOCATION_WITHOUT_NEXT_UPDATE, is_taken)
     }
 
     /// Whether delta CRLs are used that are among the CRLs (RFC 5280 5.2.4): the newest one that fits a complete CRL is asked before it; its signer has to be
     /// that of the complete one (6.3.3 (h)).
     pub fn use_deltas(&mut self, are_used: bool) -> &mut RevocationSettings {
-        self.flag(USE_DELTAS, are_used)
+        self.flag(ffi::REVOCATION_USE_DELTAS, are_used)
     }
 }
 

@@ -1,9 +1,90 @@
-//! The declarations of `src/ffi.rs` and `src/ffi/build.rs` are those of `include/x509.h`.
-use std::collections::BTreeMap;
+//! What the crate repeats of `include/x509.h`: structs are laid out as a C compiler lays them out, and the version and the algorithms are the header's.
+use std::mem::{align_of, size_of, zeroed};
+use std::path::Path;
+use std::process::Command;
+use std::{env, fs, ptr};
 
 const HEADER: &str = include_str!("../../../include/x509.h");
-const DECLARED: &str = include_str!("../src/ffi.rs");
-const DECLARED_TO_BUILD: &str = include_str!("../src/ffi/build.rs");
+const FOLDER: &str = concat!(env!("CARGO_MANIFEST_DIR"), "/../../include");
+
+#[path = "../src/ffi/header.rs"]
+mod header;
+
+/// A struct of the header.
+struct Layout {
+    name: &'static str,
+    size: usize,
+    alignment: usize,
+    /// Each field with its offset.
+    fields: Vec<(&'static str, usize)>,
+}
+
+/// How the structs are laid out here.
+macro_rules! layouts {
+    ($($name:ident = $struct:ident {$($field:ident),* $(,)?})*) => {
+        fn layouts() -> Vec<Layout> {
+            vec![$({
+                // SAFETY: a struct of the header has numbers, arrays of numbers and structs of numbers alone, which zeros are.
+                let it: header::$struct = unsafe { zeroed() };
+                let at = ptr::addr_of!(it) as usize;
+                Layout {
+                    name: stringify!($name),
+                    size: size_of::<header::$struct>(),
+                    alignment: align_of::<header::$struct>(),
+                    fields: vec![$((stringify!($field), ptr::addr_of!(it.$field) as usize - at)),*],
+                }
+            }),*]
+        }
+    };
+}
+
+include!("header/structs.rs");
+
+/// Its size, its alignment and its offsets in a line, as [`asking`] has them printed.
+fn line(it: &Layout) -> String {
+    let fields = it.fields.iter().map(|(name, at)| format!(" {name} {at}"));
+    let front = format!("{} {} {}", it.name, it.size, it.alignment);
+    fields.fold(front, |line, field| line + &field)
+}
+
+/// A program in C that prints a line for each struct.
+fn asking(layouts: &[Layout]) -> String {
+    let asked = layouts.iter().map(|it| {
+        let name = it.name;
+        let fields = it.fields.iter().map(|(field, _)| {
+            format!("    printf(\" {field} %zu\", offsetof({name}, {field}));\n")
+        });
+        let front = format!("    printf(\"{name} %zu %zu\", sizeof({name}), _Alignof({name}));\n");
+        fields.fold(front, |text, field| text + &field) + "    puts(\"\");\n"
+    });
+    let asked: String = asked.collect();
+    format!(
+        "#include <stdio.h>\n#include <x509.h>\n\nint main(void)\n{{\n{asked}    return 0;\n}}\n"
+    )
+}
+
+/// What the program prints.
+fn printed(program: &str) -> String {
+    let folder = Path::new(env!("CARGO_TARGET_TMPDIR"));
+    let (source, file) = (folder.join("layouts.c"), folder.join("layouts"));
+    fs::write(&source, program).expect("a file");
+    let compiler = env::var_os("CC").unwrap_or_else(|| "cc".into());
+    let mut command = Command::new(compiler);
+    command.args(["-std=c11", "-I", FOLDER, "-o"]);
+    let ended = command.arg(&file).arg(&source).status();
+    assert!(ended.expect("a C compiler").success());
+    let printed = Command::new(&file).output().expect("a program").stdout;
+    String::from_utf8(printed).expect("a text")
+}
+
+#[test]
+fn structs_are_laid_out_as_in_c() {
+    let layouts = layouts();
+    assert_eq!(layouts.len(), HEADER.matches("typedef struct {").count());
+    let lines: Vec<String> = layouts.iter().map(line).collect();
+    let printed = printed(&asking(&layouts));
+    assert_eq!(lines, printed.lines().collect::<Vec<_>>());
+}
 
 /// The parts of a text that stand between two others.
 fn between<'a>(text: &'a str, before: &str, after: &str) -> Vec<&'a str> {
@@ -13,140 +94,8 @@ fn between<'a>(text: &'a str, before: &str, after: &str) -> Vec<&'a str> {
         .collect()
 }
 
-fn without_comments(text: &str) -> String {
-    let parts = text.split("/*").enumerate();
-    let kept = parts.map(|(n, part)| {
-        if n == 0 {
-            part
-        } else {
-            part.split_once("*/").expect("an end").1
-        }
-    });
-    kept.collect()
-}
-
-/// `x509_extension_entry` as `ExtensionEntry`.
-fn camel(name: &str) -> String {
-    let words = name
-        .strip_prefix("x509_")
-        .expect("a name of the header")
-        .split('_');
-    words
-        .map(|word| word[..1].to_uppercase() + &word[1..])
-        .collect()
-}
-
-fn rust_type(c_type: &str) -> String {
-    match c_type {
-        "size_t" => "usize".to_owned(),
-        "uint8_t" => "u8".to_owned(),
-        "uint32_t" => "u32".to_owned(),
-        "int32_t" => "i32".to_owned(),
-        "uint64_t" => "u64".to_owned(),
-        other => camel(other),
-    }
-}
-
-/// `const uint8_t *in` as `input: *const u8`.
-fn declaration(c: &str) -> String {
-    let (c_type, name) = c.trim().rsplit_once(' ').expect("a type and a name");
-    let base = rust_type(c_type.trim_start_matches("const "));
-    let told = match (name.starts_with('*'), c_type.starts_with("const ")) {
-        (true, true) => format!("*const {base}"),
-        (true, false) => format!("*mut {base}"),
-        (false, _) => base,
-    };
-    let name = name.trim_start_matches('*');
-    // `uint8_t purpose[64]`
-    let (name, told) = match name.split_once('[') {
-        Some((name, count)) => (name, format!("[{told}; {count}")),
-        None => (name, told),
-    };
-    format!("{}: {told}", if name == "in" { "input" } else { name })
-}
-
-/// Each call of the header by its name, as Rust declares it.
-fn calls() -> BTreeMap<String, String> {
-    let header = without_comments(HEADER);
-    let found = between(&header, "\nx509_status ", ";")
-        .into_iter()
-        .map(|call| {
-            let (name, arguments) = call.split_once('(').expect("arguments");
-            let words = arguments.trim_end_matches(')').split(',').map(declaration);
-            (name.to_owned(), words.collect::<Vec<_>>().join(", "))
-        });
-    found.collect()
-}
-
-/// Each struct of the header by its name in Rust, with its fields.
-fn structs() -> BTreeMap<String, Vec<String>> {
-    let header = without_comments(HEADER);
-    let parts = header.split("typedef struct {").skip(1);
-    let found = parts.map(|part| {
-        let (fields, rest) = part.split_once('}').expect("an end");
-        let name = camel(rest.split_once(';').expect("a name").0.trim());
-        let fields = fields
-            .split(';')
-            .map(str::trim)
-            .filter(|field| !field.is_empty());
-        (name, fields.map(declaration).collect())
-    });
-    found.collect()
-}
-
-#[test]
-fn calls_are_those_of_the_header() {
-    let calls = calls();
-    let [declared, others] =
-        [DECLARED, DECLARED_TO_BUILD].map(|text| between(text, "    fn x509_", " -> c_int;"));
-    assert!(declared.len() > 40 && others.len() >= 6);
-    for call in declared.into_iter().chain(others) {
-        let (name, arguments) = call.split_once('(').expect("arguments");
-        let name = format!("x509_{name}");
-        let words = arguments.strip_suffix(')').expect("an end").trim_end();
-        let words = words.trim_end_matches(',').split(',');
-        let words = words.map(str::trim).collect::<Vec<_>>().join(", ");
-        assert_eq!(calls.get(&name), Some(&words), "{name}");
-    }
-}
-
-#[test]
-fn structs_are_those_of_the_header() {
-    let structs = structs();
-    let declared = between(DECLARED, "#[repr(C)]\n", "\n}");
-    assert!(declared.len() > 15);
-    for part in declared {
-        let (front, fields) = part.split_once(" {").expect("fields");
-        let name = front.rsplit(' ').next().expect("a name");
-        let fields = fields.lines().map(|line| line.trim().trim_end_matches(','));
-        let fields = fields
-            .filter_map(|line| line.strip_prefix("pub(crate) "))
-            .map(str::to_owned);
-        assert_eq!(structs.get(name), Some(&fields.collect()), "{name}");
-    }
-}
-
-#[test]
-fn statuses_are_those_of_the_header() {
-    let mut declared = between(DECLARED, "\nconst ", ";");
-    declared.retain(|told| told.contains(": c_int = "));
-    assert_eq!(declared.len(), 12);
-    for told in declared {
-        let (name, number) = told.split_once(": c_int = ").expect("a number");
-        let forms = [
-            format!("\n#define X509_{name} {number}\n"),
-            format!("\n#define X509_{name} ({number})\n"),
-        ];
-        assert!(forms.iter().any(|form| HEADER.contains(form)), "{name}");
-    }
-}
-
 #[test]
 fn the_version_is_that_of_the_header() {
-    assert!(
-        HEADER.contains("\nuint32_t x509_version(void);")
-            && DECLARED.contains("    fn x509_version() -> u32;")
-    );
     let number = |part: &str| -> u32 {
         let found = between(HEADER, &format!("\n#define X509_VERSION_{part} "), "\n");
         found[0].parse().expect("a number")

@@ -18,7 +18,7 @@ const OBJECTS: [(&str, &str, &str); 4] = [
 fn functions<'a>(source: &'a str, line: &str) -> Vec<&'a str> {
     let (_, rest) = source.split_once(line).expect("the methods");
     let (body, _) = rest.split_once("\n}\n").expect("an end");
-    let found = body.split("\n    pub fn ").skip(1);
+    let found = body.split(" pub fn ").skip(1);
     found
         .map(|it| it.split(['(', '<']).next().expect("a name"))
         .collect()

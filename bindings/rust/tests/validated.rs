@@ -495,6 +495,34 @@ fn a_purpose_holds_along_the_path() {
 }
 
 #[test]
+fn common_names_are_constrained_where_it_is_asked() {
+    let limits = constrained(permitted(GeneralName::DnsName("example.org")));
+    let root = certificate("CN=Root", "CN=Root", KEY, &[&is_ca, &limits]);
+    let asked = |leaf: &Certificate, is_asked| {
+        let mut settings = PathSettings::new(at(MOMENT));
+        validate(&root, &[leaf], settings.constrain_common_names(is_asked))
+    };
+    for outside in [
+        "CN=www.example.com",
+        "CN=*.EXAMPLE.com",
+        "CN=a+CN=example.org",
+    ] {
+        let leaf = certificate("CN=Root", outside, OTHER_KEY, &[]);
+        assert_eq!(asked(&leaf, false), Ok(1), "{outside}");
+        let other = Err(fault(0, FaultReason::Names));
+        assert_eq!(asked(&leaf, true), other, "{outside}");
+        // the SAN has a name of that form
+        let named = for_host("www.example.org");
+        let leaf = certificate("CN=Root", outside, OTHER_KEY, &[&named]);
+        assert_eq!(asked(&leaf, true), Ok(1), "{outside}");
+    }
+    for inside in ["CN=www.Example.org", "CN=192.0.2.1", "CN=An Example"] {
+        let leaf = certificate("CN=Root", inside, OTHER_KEY, &[]);
+        assert_eq!(asked(&leaf, true), Ok(1), "{inside}");
+    }
+}
+
+#[test]
 fn the_last_key_has_a_use() {
     let root = certificate("CN=Root", "CN=Root", KEY, &[&is_ca]);
     let signing = |builder: &mut CertificateBuilder| {

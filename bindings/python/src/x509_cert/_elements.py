@@ -6,7 +6,8 @@ import ctypes
 from typing import NamedTuple
 
 from ._der import SET, element
-from ._library import MALFORMED, RAW, ElementView, X509Error, fill, walk
+from ._header import MALFORMED, RAW, ElementView
+from ._library import X509Error, fill, walk
 
 
 class Element(NamedTuple):

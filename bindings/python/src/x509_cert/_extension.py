@@ -6,7 +6,7 @@ import ctypes
 from typing import ClassVar, Generic, Iterator, Self, Sequence, TypeVar, overload
 
 from ._given import octets
-from ._library import Span
+from ._header import Span
 from ._pem import Encoding, encoded
 from .oid import ObjectIdentifier
 

@@ -1,4 +1,4 @@
-"""The C library of `include/x509.h`, by `ctypes`: its structs, its statuses, and one way to call it.
+"""The C library of `include/x509.h`, by `ctypes`: one way to call it, by what `_header.py` says of its calls.
 
 The library is the one that the environment variable X509_LIBRARY names, as for the crate for Rust: by its folder, by its file, or by that of a static library
 beside it; or else the one that this package carries; or else that with this package's soname, or `libx509.so`, as the system finds it.
@@ -8,13 +8,12 @@ from __future__ import annotations
 
 import ctypes
 import ctypes.util
+import functools
 import os
 import pathlib
-from typing import Any, Iterator, TypeVar
+from typing import Any, Callable, Iterator, TypeVar
 
-OK, MEMORY, ROOM = 0, -1, -2
-OVERLENGTH, MALFORMED, FAILED, SET_DUPLICATE, VALUE, ABSENT, REPEATED, FAULT, LIMIT = range(1, 10)
-RFC5280, RAW = 0, 1
+from ._header import ABSENT, CALLS, FAILED, LIMIT, MALFORMED, MEMORY, OK, OVERLENGTH, REPEATED, ROOM, SET_DUPLICATE, VALUE
 
 
 class X509Error(ValueError):
@@ -62,311 +61,6 @@ class X509Error(ValueError):
         self.status, self.place = status, place
 
 
-class Span(ctypes.Structure):
-    _fields_ = [("place", ctypes.c_size_t), ("len", ctypes.c_size_t)]
-
-    def of(self, data: bytes) -> bytes:
-        """The part of the bytes that a call filled this in for."""
-        place, length = int(self.place), int(self.len)
-        return data[place : place + length]
-
-    def is_there(self) -> bool:
-        return int(self.place) != 0 or int(self.len) != 0
-
-
-def _spans(*names: str) -> list[tuple[str, Any]]:
-    return [(name, Span) for name in names]
-
-
-def _numbers(*names: str) -> list[tuple[str, Any]]:
-    return [(name, ctypes.c_uint32) for name in names]
-
-
-class CertificateView(ctypes.Structure):
-    serial_number: Span
-    issuer: Span
-    subject: Span
-    subject_public_key_info: Span
-    extensions: Span
-    inner_algorithm: Span
-    issuer_unique_id: Span
-    subject_unique_id: Span
-
-    _fields_ = [
-        *_numbers("version"),
-        *_spans("serial_number", "issuer", "subject", "subject_public_key_info", "extensions"),
-        ("not_before", ctypes.c_uint64),
-        ("not_after", ctypes.c_uint64),
-        *_spans("inner_algorithm", "issuer_unique_id"),
-        *_numbers("issuer_unused_bits"),
-        *_spans("subject_unique_id"),
-        *_numbers("subject_unused_bits"),
-    ]
-
-
-class SignatureView(ctypes.Structure):
-    signed_part: Span
-    algorithm: Span
-    bits: Span
-
-    _fields_ = [*_spans("signed_part", "algorithm", "bits"), *_numbers("unused_bits")]
-
-
-class ServerNameView(ctypes.Structure):
-    _fields_ = [("name_len", ctypes.c_size_t), ("address_len", ctypes.c_uint32), ("address", ctypes.c_uint8 * 16)]
-
-
-class EmailAddressView(ctypes.Structure):
-    local: Span
-    host: Span
-
-    _fields_ = _spans("local", "host")
-
-
-class ExtensionEntry(ctypes.Structure):
-    _fields_ = [*_spans("oid"), *_numbers("critical"), *_spans("value")]
-
-
-class GeneralNameView(ctypes.Structure):
-    _fields_ = [*_numbers("kind"), *_spans("element", "content", "type_id", "value", "name_assigner", "party_name")]
-
-
-class BasicConstraintsView(ctypes.Structure):
-    _fields_ = _numbers("ca", "has_path_len", "path_len")
-
-
-class AuthorityKeyIdentifierView(ctypes.Structure):
-    _fields_ = _spans("key_identifier", "issuer", "serial_number")
-
-
-class AccessView(ctypes.Structure):
-    _fields_ = [*_spans("method"), ("location", GeneralNameView)]
-
-
-class PolicyView(ctypes.Structure):
-    _fields_ = _spans("identifier", "qualifiers")
-
-
-class PolicyQualifierView(ctypes.Structure):
-    _fields_ = _spans("identifier", "qualifier")
-
-
-class UserNoticeView(ctypes.Structure):
-    organization: Span
-    notice_numbers: Span
-    explicit_text: Span
-
-    _fields_ = _spans("organization", "notice_numbers", "explicit_text")
-
-
-class PrivateKeyUsagePeriodView(ctypes.Structure):
-    _fields_ = [
-        *_numbers("has_not_before"),
-        ("not_before", ctypes.c_uint64),
-        *_numbers("has_not_after"),
-        ("not_after", ctypes.c_uint64),
-    ]
-
-
-class PolicyMappingView(ctypes.Structure):
-    _fields_ = _spans("issuer_policy", "subject_policy")
-
-
-class PolicyConstraintsView(ctypes.Structure):
-    _fields_ = _numbers(
-        "has_require_explicit_policy", "require_explicit_policy", "has_inhibit_policy_mapping", "inhibit_policy_mapping"
-    )
-
-
-class DistributionPointView(ctypes.Structure):
-    _fields_ = [*_spans("full_name", "relative_name"), *_numbers("has_reasons", "reasons"), *_spans("crl_issuer")]
-
-
-class IssuingDistributionPointView(ctypes.Structure):
-    _fields_ = [
-        *_spans("full_name", "relative_name"),
-        *_numbers(
-            "only_contains_user_certs",
-            "only_contains_ca_certs",
-            "has_only_some_reasons",
-            "only_some_reasons",
-            "indirect_crl",
-            "only_contains_attribute_certs",
-        ),
-    ]
-
-
-class NameConstraintsView(ctypes.Structure):
-    _fields_ = _spans("permitted", "excluded")
-
-
-class SubtreeView(ctypes.Structure):
-    _fields_ = [("base", GeneralNameView), *_numbers("minimum", "has_maximum", "maximum")]
-
-
-class AttributeView(ctypes.Structure):
-    _fields_ = [*_spans("oid"), *_numbers("tag"), *_spans("element", "content")]
-
-
-class CrlView(ctypes.Structure):
-    inner_algorithm: Span
-    issuer: Span
-    entries: Span
-    extensions: Span
-    signature: SignatureView
-
-    _fields_ = [
-        *_numbers("version"),
-        *_spans("inner_algorithm", "issuer"),
-        ("this_update", ctypes.c_uint64),
-        *_numbers("has_next_update"),
-        ("next_update", ctypes.c_uint64),
-        *_spans("entries", "extensions"),
-        ("signature", SignatureView),
-    ]
-
-
-class CrlEntryView(ctypes.Structure):
-    _fields_ = [*_spans("serial_number"), ("date", ctypes.c_uint64), *_spans("extensions")]
-
-
-class RequestView(ctypes.Structure):
-    subject: Span
-    subject_public_key_info: Span
-    attributes: Span
-    signature: SignatureView
-
-    _fields_ = [*_numbers("version"), *_spans("subject", "subject_public_key_info", "attributes"), ("signature", SignatureView)]
-
-
-class RequestAttributeView(ctypes.Structure):
-    oid: Span
-    values: Span
-
-    _fields_ = _spans("oid", "values")
-
-
-class ElementView(ctypes.Structure):
-    _fields_ = [*_numbers("tag"), *_spans("element", "content")]
-
-
-class KeyView(ctypes.Structure):
-    _fields_ = [*_numbers("kind"), *_spans("oid", "parameters", "bits"), *_numbers("unused_bits"), *_spans("curve"), *_numbers("size")]
-
-
-class RsaKeyView(ctypes.Structure):
-    modulus: Span
-    public_exponent: Span
-
-    _fields_ = [*_spans("modulus", "public_exponent"), *_numbers("modulus_bits")]
-
-
-class FindingView(ctypes.Structure):
-    rule: Span
-    severity: Span
-    section: Span
-    place: Span
-    seen: Span
-
-    _fields_ = _spans("object", "rule", "severity", "section", "place", "seen")
-
-
-class AlgorithmView(ctypes.Structure):
-    _fields_ = [*_numbers("kind"), *_spans("oid", "parameters")]
-
-
-class AnchorView(ctypes.Structure):
-    element: Span
-    name: Span
-    subject_public_key_info: Span
-    extensions: Span
-    key_identifier: Span
-    title: Span
-    title_language: Span
-    controls: Span
-
-    _fields_ = [
-        *_numbers("kind"),
-        *_spans("element", "name", "subject_public_key_info", "extensions", "key_identifier", "title", "title_language", "controls"),
-    ]
-
-
-class PathControlsView(ctypes.Structure):
-    _fields_ = [
-        *_spans("name", "certificate", "policies"),
-        *_numbers("has_policy_flags", "policy_flags"),
-        *_spans("permitted", "excluded"),
-        *_numbers("has_path_len", "path_len"),
-    ]
-
-
-class TimestampView(ctypes.Structure):
-    _fields_ = [
-        *_numbers("version"),
-        *_spans("log_id"),
-        ("timestamp", ctypes.c_uint64),
-        *_spans("extensions"),
-        *_numbers("hash", "signature_algorithm"),
-        *_spans("signature"),
-    ]
-
-
-class LogLeafView(ctypes.Structure):
-    _fields_ = [
-        *_numbers("version", "leaf_type"),
-        ("timestamp", ctypes.c_uint64),
-        *_numbers("entry_type"),
-        *_spans("issuer_key_hash", "certificate", "extensions"),
-    ]
-
-
-class LogPrecertificateView(ctypes.Structure):
-    _fields_ = _spans("precertificate", "chain")
-
-
-class RevocationView(ctypes.Structure):
-    _fields_ = [("date", ctypes.c_uint64), ("reason", ctypes.c_int32)]
-
-
-class PathFaultView(ctypes.Structure):
-    _fields_ = [("place", ctypes.c_size_t), *_numbers("reason")]
-
-
-class PathSettings(ctypes.Structure):
-    _fields_ = [(it, ctypes.c_uint64) for it in ("moment", "flags", "key_usage", "purposes", "purpose_len")] + [("purpose", ctypes.c_uint8 * 64)]
-
-
-class PathAnswerView(ctypes.Structure):
-    _fields_ = [("place", ctypes.c_size_t), *_numbers("reason"), *_spans("name", "key"), ("policies_len", ctypes.c_size_t)]
-
-
-class BadLink(ctypes.Structure):
-    certificate: Span
-    key: Span
-
-    _fields_ = _spans("certificate", "key")
-
-
-class FoundPathView(ctypes.Structure):
-    _fields_ = [("anchor", ctypes.c_size_t), ("count", ctypes.c_size_t), ("place", ctypes.c_size_t), *_numbers("reason")]
-
-
-class SignedCrlView(ctypes.Structure):
-    crl: Span
-    name: Span
-    key: Span
-    verified: int
-    _fields_ = [*_spans("crl", "name", "key"), *_numbers("verified")]
-
-
-class RevocationSettings(ctypes.Structure):
-    _fields_ = [("moment", ctypes.c_uint64), ("flags", ctypes.c_uint64)]
-
-
-class RevocationAnswerView(ctypes.Structure):
-    _fields_ = [*_numbers("status", "reason"), ("crl", ctypes.c_size_t), ("date", ctypes.c_uint64), *_numbers("reasons")]
-
-
 View = TypeVar("View", bound=ctypes.Structure)
 
 _loaded: ctypes.CDLL | None = None
@@ -402,19 +96,32 @@ def _library() -> ctypes.CDLL:
     return _loaded
 
 
+@functools.cache
+def _call(name: str) -> Callable[..., int]:
+    """A call of the library, which takes and answers what the header says."""
+    answer, *words = CALLS[name]
+    found = _library()[name]
+    found.restype, found.argtypes = answer, words
+    return found
+
+
 def _words(arguments: tuple[Any, ...]) -> list[Any]:
-    """Bytes go in as a pointer and a length, and all else by the types of `ctypes`: it would take a text or a number for a word of its own making."""
+    """Bytes go in as a pointer and a length, and all else by the types of `ctypes`: a number that it made a word of would lose what doesn't fit."""
     words: list[Any] = []
     for it in arguments:
         if isinstance(it, (str, int, bytearray, memoryview)):
             raise TypeError(f"{type(it).__name__} isn't bytes")
-        words += [ctypes.c_char_p(it), ctypes.c_size_t(len(it))] if isinstance(it, bytes) else [it]
+        words += [it, len(it)] if isinstance(it, bytes) else [it]
     return words
 
 
 def status_of(name: str, *arguments: Any) -> int:
-    """The status of a call."""
-    status = int(_library()[name](*_words(arguments)))
+    """The status of a call. One with a word too few or of another type isn't made: a TypeError, or a ctypes.ArgumentError; nor is one with a word too many."""
+    words = _words(arguments)
+    # ctypes itself lets further words of a call of C pass
+    if len(words) != len(CALLS[name]) - 1:
+        raise TypeError(f"{name} takes {len(CALLS[name]) - 1} words, and not {len(words)}")
+    status = _call(name)(*words)
     if status == MEMORY:
         raise MemoryError(name)
     return status
@@ -429,9 +136,7 @@ def call(name: str, *arguments: Any) -> None:
 
 def library_version() -> tuple[int, int, int]:
     """The version of the C library that is loaded: major, minor and patch."""
-    found = _library()["x509_version"]
-    found.restype = ctypes.c_uint32
-    number = int(found())
+    number = _call("x509_version")()
     return number >> 16, number >> 8 & 0xFF, number & 0xFF
 
 
@@ -473,9 +178,9 @@ def fill(name: str, *arguments: Any) -> bytes:
     status = status_of(name, *arguments, None, ctypes.c_size_t(0), ctypes.byref(written))
     if status not in (OK, ROOM):
         raise X509Error(name, status)
-    buffer = ctypes.create_string_buffer(max(1, written.value))
+    buffer = (ctypes.c_uint8 * written.value)()
     call(name, *arguments, buffer, ctypes.c_size_t(written.value), ctypes.byref(written))
-    return buffer.raw[: written.value]
+    return ctypes.string_at(buffer, written.value)
 
 
 def walk(name: str, kind: type[View], *arguments: Any) -> Iterator[View]:

@@ -4,7 +4,8 @@ from __future__ import annotations
 
 import datetime
 
-from ._library import Span, view, walk
+from ._header import Span
+from ._library import view, walk
 
 _EPOCH = datetime.datetime(1970, 1, 1, tzinfo=datetime.timezone.utc)
 

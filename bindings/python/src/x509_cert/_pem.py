@@ -7,7 +7,8 @@ import binascii
 import enum
 
 from ._given import octets
-from ._library import MALFORMED, X509Error
+from ._header import MALFORMED
+from ._library import X509Error
 
 _BEGIN, _END, _DASHES = b"-----BEGIN ", b"-----END ", b"-----"
 _COLUMNS = 64

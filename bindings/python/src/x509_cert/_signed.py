@@ -6,7 +6,7 @@ from typing import Any, ClassVar
 
 from . import _cryptography
 from ._cryptography import HashOfCryptography
-from ._library import SignatureView
+from ._header import SignatureView
 from ._pem import Encoding, encoded
 from .key import AlgorithmIdentifier
 from .oid import ObjectIdentifier

@@ -4,7 +4,8 @@ from __future__ import annotations
 
 from typing import Callable, Iterator
 
-from ._library import FAILED, X509Error, fill
+from ._header import FAILED
+from ._library import X509Error, fill
 
 
 def read_text(call: str, text: str, place: Callable[[str], int]) -> bytes:

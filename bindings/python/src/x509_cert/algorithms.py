@@ -6,7 +6,8 @@ from typing import NamedTuple
 
 from ._der import NULL, SEQUENCE, context, element, integer
 from ._elements import elements, only
-from ._library import MALFORMED, X509Error
+from ._header import MALFORMED
+from ._library import X509Error
 from ._numbers import whole_number
 from ._writing import identifier_of
 from .key import AlgorithmIdentifier

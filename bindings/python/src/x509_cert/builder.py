@@ -22,7 +22,8 @@ from ._cryptography import AnyAlgorithm, AnyPublicKey, AnySigner, PrivateKeyOfCr
 from ._der import BIT_STRING, SEQUENCE, SET, UTF8_STRING, context, element
 from ._extension import ExtensionType
 from ._given import instance, listed, octets, whole, whole_seconds
-from ._library import RequestAttributeView, fill, walk
+from ._header import RequestAttributeView
+from ._library import fill, walk
 from ._writing import identifier_of
 from ._numbers import serial_element
 from .certificate import Certificate, certificate_of

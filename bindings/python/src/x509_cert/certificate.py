@@ -10,8 +10,9 @@ import secrets
 from typing import Any, NamedTuple, Sequence
 
 from ._given import der_of, instance, octets
+from ._header import ABSENT, FAULT, OK, RAW, RFC5280, CertificateView, PathFaultView, SignatureView, Span
 from ._keyed import Keyed
-from ._library import ABSENT, FAULT, OK, RAW, RFC5280, CertificateView, PathFaultView, SignatureView, Span, X509Error, fill, number, status_of, view
+from ._library import X509Error, fill, number, status_of, view
 from ._numbers import moment, whole_number
 from ._pem import blocks, refuse_pem
 from ._signed import Signed

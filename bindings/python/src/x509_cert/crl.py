@@ -12,7 +12,8 @@ from . import _cryptography
 from ._cryptography import AnyPublicKey
 from ._extension import ExtensionType
 from ._given import der_of, instance, octets, whole, whole_seconds
-from ._library import CrlEntryView, CrlView, SignatureView, Span, fill, find, view, walk
+from ._header import CrlEntryView, CrlView, SignatureView, Span
+from ._library import fill, find, view, walk
 from ._numbers import moment, serial_element, whole_number
 from ._pem import blocks, refuse_pem
 from ._signed import Signed

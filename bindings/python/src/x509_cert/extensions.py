@@ -13,23 +13,20 @@ from ._cryptography import AnyPublicKey
 from ._der import ENUMERATED, OCTET_STRING, SEQUENCE, context, element, flag, integer, named_bits
 from ._extension import ExtensionType, ListExtension, _number, _part
 from ._given import der_of, instance, listed, octets, some, whole
-from ._library import (
+from ._header import (
     AccessView,
     AuthorityKeyIdentifierView,
     BasicConstraintsView,
     DistributionPointView,
-    ExtensionEntry,
+    ExtensionEntryView,
     GeneralNameView,
     IssuingDistributionPointView,
     NameConstraintsView,
     Span,
     SubtreeView,
     TimestampView,
-    fill,
-    number,
-    view,
-    walk,
 )
+from ._library import fill, number, view, walk
 from ._writing import general_name_der, general_names_der, identifier_of, relative_name_der
 from .algorithms import ECDSA, RSA, algorithm_of
 from .general_name import DNSName, GeneralName, GeneralNames, IPAddress, general_name
@@ -733,7 +730,7 @@ class Extensions:
     @classmethod
     def from_der(cls, data: bytes) -> Extensions:
         """Those of a list of them; none of no bytes."""
-        found = walk("x509_extensions_next", ExtensionEntry, data) if data else iter(())
+        found = walk("x509_extensions_next", ExtensionEntryView, data) if data else iter(())
         return cls([Extension(ObjectIdentifier.from_content(it.oid.of(data)), bool(it.critical), it.value.of(data)) for it in found])
 
     def get_extension_for_oid(self, oid: ObjectIdentifier) -> Extension[ExtensionType]:

@@ -11,7 +11,8 @@ import itertools
 from typing import AbstractSet, Callable, Iterable, Union
 
 from ._given import instance, whole
-from ._library import ABSENT, FAULT, LIMIT, OK, BadLink, FoundPathView, Span, X509Error, status_of
+from ._header import ABSENT, FAULT, LIMIT, OK, BadLinkView, FoundPathView, Span
+from ._library import X509Error, status_of
 from .certificate import Certificate, certificate_of
 from .extensions import KeyUsage
 from .oid import ObjectIdentifier
@@ -71,6 +72,7 @@ def find_path(
     is_chained: bool = True,
     key_usage: KeyUsage | None = None,
     allows_version_1: bool = False,
+    constrain_common_names: bool = False,
     max_depth: int = 8,
     max_signatures: int = 100,
     revocation: Revocation | None = None,
@@ -97,6 +99,7 @@ def find_path(
         is_chained,
         key_usage,
         allows_version_1,
+        constrain_common_names,
     )
     if not 0 <= whole(max_depth, "the depth") <= 255:
         raise ValueError("the depth is a number from 0 to 255")
@@ -123,6 +126,7 @@ def find_path(
             is_chained=is_chained,
             key_usage=key_usage,
             allows_version_1=allows_version_1,
+            constrain_common_names=constrain_common_names,
         )
 
     verify = _verifies if verify is None else verify
@@ -302,21 +306,21 @@ class _Search:
         self.candidates = (Span * len(candidates))(*map(self._put, candidates))
         self.known, self.certificate, self.asked = candidates, certificate, asked
         self.wanted = self._put(certificate)
-        self.links: dict[_Link, BadLink] = {}
+        self.links: dict[_Link, BadLinkView] = {}
 
     def _put(self, data: bytes) -> Span:
         place = len(self.data)
         self.data += data
         return Span(place, len(data))
 
-    def _link(self, link: _Link) -> BadLink:
+    def _link(self, link: _Link) -> BadLinkView:
         if link not in self.links:
-            self.links[link] = BadLink(*map(self._put, link))
+            self.links[link] = BadLinkView(*map(self._put, link))
         return self.links[link]
 
     def next(self, without: AbstractSet[_Part]) -> _Answer:
         links = [self._link(it) for it in without if isinstance(it, tuple)]
-        bad = (BadLink * len(links))(*links)
+        bad = (BadLinkView * len(links))(*links)
         trusted = [(it, span) for it, span in self.anchors if it not in without]
         anchors = (Span * len(trusted))(*(span for _, span in trusted))
         size = 16

@@ -9,7 +9,18 @@ from typing import Any, Iterable, Iterator, Self, Union, overload
 from ._der import SEQUENCE, context, element
 from ._elements import text_of
 from ._given import instance, listed, octets
-from ._library import GeneralNameView, Span, walk
+from ._header import (
+    GENERAL_NAME_DIRECTORY,
+    GENERAL_NAME_DNS,
+    GENERAL_NAME_EDI_PARTY,
+    GENERAL_NAME_EMAIL,
+    GENERAL_NAME_IP,
+    GENERAL_NAME_OTHER,
+    GENERAL_NAME_URI,
+    GeneralNameView,
+    Span,
+)
+from ._library import walk
 from .name import Name
 from .oid import ObjectIdentifier
 
@@ -165,16 +176,16 @@ def general_name(view: GeneralNameView, data: bytes) -> GeneralName:
     """The name that a call filled in over these bytes."""
     content = view.content.of(data)
     kind = int(view.kind)
-    if kind == 0:
+    if kind == GENERAL_NAME_OTHER:
         return OtherName(ObjectIdentifier.from_content(view.type_id.of(data)), view.value.of(data))
-    if kind in (1, 2, 6):
-        texts: dict[int, type[_Text]] = {1: RFC822Name, 2: DNSName, 6: UniformResourceIdentifier}
+    texts: dict[int, type[_Text]] = {GENERAL_NAME_EMAIL: RFC822Name, GENERAL_NAME_DNS: DNSName, GENERAL_NAME_URI: UniformResourceIdentifier}
+    if kind in texts:
         return texts[kind]._read(content.decode("ascii"))
-    if kind == 4:
+    if kind == GENERAL_NAME_DIRECTORY:
         return DirectoryName(Name(content))
-    if kind == 5:
+    if kind == GENERAL_NAME_EDI_PARTY:
         return EDIPartyName(content)
-    if kind == 7:
+    if kind == GENERAL_NAME_IP:
         return IPAddress(_address(content))
     return RegisteredID(ObjectIdentifier.from_content(content))
 

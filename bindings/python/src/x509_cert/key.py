@@ -6,7 +6,8 @@ import enum
 
 from ._extension import _part
 from ._given import octets
-from ._library import AlgorithmView, KeyView, RsaKeyView, view
+from ._header import AlgorithmView, KeyView, RsaKeyView
+from ._library import view
 from ._pem import Encoding, encoded
 from .oid import ObjectIdentifier
 

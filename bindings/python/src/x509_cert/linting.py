@@ -6,7 +6,8 @@ import dataclasses
 import enum
 
 from ._given import der_of, named
-from ._library import FindingView, Span, fill, walk
+from ._header import FindingView, Span
+from ._library import fill, walk
 from .certificate import Certificate, certificate_of
 from .crl import CertificateRevocationList
 from .request import CertificateSigningRequest, TrustAnchor

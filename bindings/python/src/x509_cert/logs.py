@@ -16,7 +16,8 @@ from typing import Any, Union
 from . import _cryptography, merkle
 from ._cryptography import AnyPublicKey
 from ._given import instance, octets, whole
-from ._library import LogLeafView, LogPrecertificateView, Span, fill, view, walk
+from ._header import LogLeafView, LogPrecertificateView, Span
+from ._library import fill, view, walk
 from .certificate import Certificate
 from .extensions import SignedCertificateTimestamp, verify_of_log
 

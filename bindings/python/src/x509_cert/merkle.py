@@ -6,7 +6,8 @@ import ctypes
 from typing import Iterable
 
 from ._given import octets, whole
-from ._library import FAILED, OK, X509Error, fill, status_of
+from ._header import FAILED, OK
+from ._library import X509Error, fill, status_of
 
 # the most leaves that a tree has here
 _MOST = (1 << 64) - 1

@@ -7,7 +7,8 @@ import enum
 from typing import Iterable, Iterator
 
 from ._given import der_of, instance, listed, octets
-from ._library import MALFORMED, AttributeView, ElementView, Span, X509Error, fill, number, walk
+from ._header import MALFORMED, AttributeView, ElementView, Span
+from ._library import X509Error, fill, number, walk
 from ._pem import Encoding, encoded
 from ._texts import place_in_name, read_text
 from .oid import NameOID, ObjectIdentifier

@@ -11,7 +11,8 @@ from ._der import NULL, SEQUENCE, SET, context, element, integer
 from ._elements import only
 from ._extension import ExtensionType, ListExtension
 from ._given import instance, octets, some, whole_list
-from ._library import MALFORMED, ElementView, PrivateKeyUsagePeriodView, RequestAttributeView, X509Error, seconds, view, walk
+from ._header import MALFORMED, ElementView, PrivateKeyUsagePeriodView, RequestAttributeView
+from ._library import X509Error, seconds, view, walk
 from ._numbers import moment, natural_numbers
 from ._writing import general_names_der, generalized_time_der, identifier_of
 from .general_name import GeneralName, GeneralNames

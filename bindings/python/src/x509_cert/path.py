@@ -7,6 +7,7 @@ from typing import Callable, Iterable
 
 from . import _cryptography
 from ._given import octets, seconds
+from ._header import PATH_MOMENT, PATH_SIGNATURE
 from ._library import fill
 from .certificate import Certificate, certificate_of, path_fault
 from .key import AlgorithmIdentifier
@@ -35,7 +36,7 @@ class PathFault(Exception):
         return {None: self.REASONS[self.reason - 1], True: "has expired", False: "isn't valid yet"}[self.is_expired]
 
 
-MOMENT_FAULT, SIGNATURE_FAULT = 4, 5
+MOMENT_FAULT, SIGNATURE_FAULT = PATH_MOMENT, PATH_SIGNATURE
 # what says whether bits are a signature: of the DER of a key and of an algorithm, of a message, and of the bits
 Verifier = Callable[[bytes, bytes, bytes, bytes], bool]
 

@@ -6,7 +6,8 @@ import ipaddress
 from typing import Union
 
 from ._given import instance, named
-from ._library import VALUE, EmailAddressView, ServerNameView, X509Error, view
+from ._header import VALUE, EmailAddressView, ServerNameView
+from ._library import X509Error, view
 from .general_name import DNSName, IPAddress, RFC822Name
 
 ServerName = Union[str, DNSName, IPAddress, ipaddress.IPv4Address, ipaddress.IPv6Address]

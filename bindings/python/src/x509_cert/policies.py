@@ -8,18 +8,8 @@ from ._der import IA5_STRING, SEQUENCE, UTF8_STRING, context, element, integer
 from ._elements import checked, only, text_of
 from ._extension import ExtensionType, ListExtension, _number, _part
 from ._given import instance, listed, octets, some, whole, whole_list
-from ._library import (
-    PolicyConstraintsView,
-    PolicyMappingView,
-    PolicyQualifierView,
-    PolicyView,
-    Span,
-    UserNoticeView,
-    X509Error,
-    number,
-    view,
-    walk,
-)
+from ._header import PolicyConstraintsView, PolicyMappingView, PolicyQualifierView, PolicyView, Span, UserNoticeView
+from ._library import X509Error, number, view, walk
 from ._numbers import natural_numbers
 from ._writing import identifier_of
 from .oid import CertificatePoliciesOID, ExtensionOID, ObjectIdentifier

@@ -5,7 +5,8 @@ from __future__ import annotations
 import enum
 from typing import Iterator
 
-from ._library import AnchorView, ElementView, PathControlsView, RequestAttributeView, RequestView, SignatureView, Span, fill, find, view, walk
+from ._header import AnchorView, ElementView, PathControlsView, RequestAttributeView, RequestView, SignatureView, Span
+from ._library import fill, find, view, walk
 from ._extension import _part
 from ._given import octets
 from ._keyed import Keyed

@@ -10,7 +10,17 @@ import itertools
 from typing import Callable, Iterable, Iterator
 
 from ._given import instance, listed, octets, seconds
-from ._library import MALFORMED, OVERLENGTH, RevocationAnswerView, RevocationSettings, SignedCrlView, Span, X509Error, number, view
+from ._header import (
+    MALFORMED,
+    OVERLENGTH,
+    REVOCATION_USE_DELTAS,
+    REVOCATION_WITHOUT_NEXT_UPDATE,
+    RevocationAnswerView,
+    RevocationSettingsView,
+    SignedCrlView,
+    Span,
+)
+from ._library import X509Error, number, view
 from ._numbers import moment as moment_of
 from .certificate import Certificate, certificate_of
 from .crl import CertificateRevocationList, crl_of
@@ -19,9 +29,6 @@ from .name import Name
 from .path import PathFault, Verifier, _verifies, working_key
 from .request import TrustAnchor
 from .validation import ValidatedPath, validate_path
-
-# flags of settings
-_WITHOUT_NEXT_UPDATE, _USE_DELTAS = 1, 2
 
 # how many chains are looked at above a certificate that may sign CRLs, and how many certificates one has
 _MOST_CHAINS, _LONGEST_CHAIN = 64, 8
@@ -243,7 +250,7 @@ class _Judge:
         crls: list[CertificateRevocationList],
         others: list[Certificate],
         moment: datetime.datetime,
-        settings: RevocationSettings,
+        settings: RevocationSettingsView,
         verify: Verifier,
         valid: dict[_Chain, bool] | None = None,
     ) -> None:
@@ -406,16 +413,16 @@ def _may_be_told(certificate: Certificate, asked: Revocation, moment: datetime.d
     return question.status().state is not RevocationState.undetermined
 
 
-def _settings(moment: datetime.datetime, without_next_update: bool, use_deltas: bool) -> RevocationSettings:
-    flags = _WITHOUT_NEXT_UPDATE if instance(without_next_update, bool, "without_next_update") else 0
-    flags |= _USE_DELTAS if instance(use_deltas, bool, "use_deltas") else 0
-    return RevocationSettings(seconds(moment, "the moment"), flags)
+def _settings(moment: datetime.datetime, without_next_update: bool, use_deltas: bool) -> RevocationSettingsView:
+    flags = REVOCATION_WITHOUT_NEXT_UPDATE if instance(without_next_update, bool, "without_next_update") else 0
+    flags |= REVOCATION_USE_DELTAS if instance(use_deltas, bool, "use_deltas") else 0
+    return RevocationSettingsView(seconds(moment, "the moment"), flags)
 
 
 class _Question:
     """What is asked of CRLs, of which those count that are verified."""
 
-    def __init__(self, certificate: Certificate, crls: list[SignedCrl], verified: list[bool], settings: RevocationSettings) -> None:
+    def __init__(self, certificate: Certificate, crls: list[SignedCrl], verified: list[bool], settings: RevocationSettingsView) -> None:
         self.certificate, self.settings, self.count = certificate, settings, len(crls)
         parts: list[bytes] = []
         self.given = (SignedCrlView * len(crls))()

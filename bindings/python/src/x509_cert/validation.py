@@ -9,7 +9,19 @@ from typing import Iterable
 
 from ._der import SEQUENCE, element
 from ._given import der_of, instance, listed, octets, seconds, some
-from ._library import FAULT, OK, PathAnswerView, PathSettings, X509Error, status_of
+from ._header import (
+    FAULT,
+    OK,
+    PATH_CONSTRAIN_COMMON_NAMES,
+    PATH_EXPLICIT_POLICY,
+    PATH_INHIBIT_ANY_POLICY,
+    PATH_INHIBIT_POLICY_MAPPING,
+    PATH_UNCHAINED,
+    PATH_VERSION_1_AUTHORITIES,
+    PathAnswerView,
+    PathSettingsView,
+)
+from ._library import X509Error, status_of
 from ._writing import identifier_of
 from .certificate import Certificate, certificate_of
 from .extensions import KeyUsage
@@ -19,8 +31,6 @@ from .path import Verifier, _encodings, _verified, working_key
 from .policies import CertificatePolicies
 from .request import TrustAnchor
 
-# the flags of settings
-_EXPLICIT_POLICY, _INHIBIT_POLICY_MAPPING, _INHIBIT_ANY_POLICY, _UNCHAINED, _VERSION_1 = 1, 2, 4, 8, 16
 # the purposes that settings have a bit for, in the order of these
 _PURPOSES = (
     ExtendedKeyUsageOID.SERVER_AUTH,
@@ -59,6 +69,7 @@ def validate_path(
     is_chained: bool = True,
     key_usage: KeyUsage | None = None,
     allows_version_1: bool = False,
+    constrain_common_names: bool = False,
 ) -> ValidatedPath:
     """What a path gives that is valid at the moment under what is trusted, topmost certificate first; a PathFault else.
 
@@ -76,6 +87,10 @@ def validate_path(
     for, and a critical ExtendedKeyUsage isn't processed, so it is a fault. `key_usage` are the usages that the last certificate has to have, where it has that
     extension (4.2.1.3). Where `allows_version_1` is true, those of version 1 are authorities (6.1.4 (k)), which the caller then knows of those given.
 
+    Where `constrain_common_names` is true, names of servers in the last certificate's common names are asked under name constraints, as those of its
+    SubjectAlternativeName are (4.2.1.10): a host, a wildcard of hosts or an IP address, each where the SubjectAlternativeName has no DNSName, or no IPAddress
+    (RFC 6125 6.4.4). RFC 5280 asks none: it is for callers that take a peer by its common name.
+
     Beyond what `check_path` looks at, names are compared as they match (RFC 5280 7.1), name constraints hold, policies are followed, and each extension of a
     type that is looked at is to be one that can be read. Whether the last certificate is that of a host or a mailbox isn't asked, and revocation isn't looked
     at: both are the caller's. An X509Error where the anchor or the name constraints can't be followed.
@@ -89,6 +104,7 @@ def validate_path(
         is_chained,
         key_usage,
         allows_version_1,
+        constrain_common_names,
     )
     call, trusted, key = _trusted(anchor)
     given = _encodings(path)
@@ -110,17 +126,19 @@ def _settings(
     is_chained: bool,
     key_usage: KeyUsage | None,
     allows_version_1: bool,
-) -> PathSettings:
+    constrain_common_names: bool,
+) -> PathSettingsView:
     """What is asked of a path, as the C library takes it."""
     flags = (
-        _flag(require_explicit_policy, _EXPLICIT_POLICY)
-        | _flag(inhibit_policy_mapping, _INHIBIT_POLICY_MAPPING)
-        | _flag(inhibit_any_policy, _INHIBIT_ANY_POLICY)
-        | _flag(not instance(is_chained, bool, "is_chained"), _UNCHAINED)
-        | _flag(allows_version_1, _VERSION_1)
+        _flag(require_explicit_policy, PATH_EXPLICIT_POLICY)
+        | _flag(inhibit_policy_mapping, PATH_INHIBIT_POLICY_MAPPING)
+        | _flag(inhibit_any_policy, PATH_INHIBIT_ANY_POLICY)
+        | _flag(not instance(is_chained, bool, "is_chained"), PATH_UNCHAINED)
+        | _flag(allows_version_1, PATH_VERSION_1_AUTHORITIES)
+        | _flag(constrain_common_names, PATH_CONSTRAIN_COMMON_NAMES)
     )
     usage = 0 if key_usage is None else instance(key_usage, KeyUsage, "key_usage").bits
-    settings = PathSettings(seconds(moment, "the moment"), flags, usage)
+    settings = PathSettingsView(seconds(moment, "the moment"), flags, usage)
     _ask_for(settings, purposes)
     return settings
 
@@ -129,12 +147,12 @@ def _asked(call: str, *words: object) -> tuple[PathAnswerView, int, bytes]:
     """What a call answers to a path, and the DER of its policies, in a buffer that they fit into."""
     size = 256
     while True:
-        answer, out = PathAnswerView(), ctypes.create_string_buffer(size)
+        answer, out = PathAnswerView(), (ctypes.c_uint8 * size)()
         status = status_of(call, *words, out, ctypes.c_size_t(size), ctypes.byref(answer))
         if status not in (OK, FAULT):
             raise X509Error(call, status)
         if answer.policies_len <= size:
-            return answer, status, out.raw[: answer.policies_len]
+            return answer, status, ctypes.string_at(out, answer.policies_len)
         size = answer.policies_len
 
 
@@ -142,7 +160,7 @@ def _flag(given: bool, flag: int) -> int:
     return flag if instance(given, bool, "a setting of a path") else 0
 
 
-def _ask_for(settings: PathSettings, purposes: Iterable[ObjectIdentifier] | None) -> None:
+def _ask_for(settings: PathSettingsView, purposes: Iterable[ObjectIdentifier] | None) -> None:
     if purposes is None:
         return
     given = set(some(purposes, ObjectIdentifier, "purposes"))
@@ -152,7 +170,7 @@ def _ask_for(settings: PathSettings, purposes: Iterable[ObjectIdentifier] | None
         raise ValueError("one purpose at most is another than those of RFC 5280, and of no more than 64 octets")
     for other in others:
         settings.purpose_len = len(other)
-        settings.purpose[: len(other)] = other
+        settings.purpose[: len(other)] = list(other)
 
 
 def _accepted(given: Iterable[ObjectIdentifier] | None) -> bytes:

@@ -1,64 +1,7 @@
 //! The calls of `include/x509.h` that build, and safe ways to make them.
+use super::header::*;
 use super::{fill, Fill};
 use crate::error::{Error, ProfilePart};
-use std::os::raw::c_int;
-
-#[rustfmt::skip]
-extern "C" {
-    fn x509_attribute_encode(
-        oid: *const u8, oid_len: usize, string_type: u32, text: *const u8, text_len: usize, is_bounded: u32, out: *mut u8, room: usize, written: *mut usize
-    ) -> c_int;
-    fn x509_relative_name_encode(attributes: *const u8, attributes_len: usize, out: *mut u8, room: usize, written: *mut usize) -> c_int;
-    fn x509_name_build(relative_names: *const u8, relative_names_len: usize, out: *mut u8, room: usize, written: *mut usize) -> c_int;
-    fn x509_name_escape(text: *const u8, text_len: usize, out: *mut u8, room: usize, written: *mut usize) -> c_int;
-    fn x509_extension_encode(
-        oid: *const u8, oid_len: usize, critical: u32, value: *const u8, value_len: usize, out: *mut u8, room: usize, written: *mut usize
-    ) -> c_int;
-    fn x509_crl_entry_encode(
-        serial_number: *const u8, serial_number_len: usize, date: u64, extensions: *const u8, extensions_len: usize, out: *mut u8, room: usize,
-        written: *mut usize
-    ) -> c_int;
-    fn x509_build_request(
-        subject: *const u8, subject_len: usize, key: *const u8, key_len: usize, attributes: *const u8, attributes_len: usize, extensions: *const u8,
-        extensions_len: usize, out: *mut u8, room: usize, written: *mut usize
-    ) -> c_int;
-    fn x509_build_certificate(
-        serial_number: *const u8, serial_number_len: usize, algorithm: *const u8, algorithm_len: usize, issuer: *const u8, issuer_len: usize, not_before: u64,
-        not_after: u64, subject: *const u8, subject_len: usize, key: *const u8, key_len: usize, extensions: *const u8, extensions_len: usize, out: *mut u8,
-        room: usize, written: *mut usize
-    ) -> c_int;
-    fn x509_build_root(
-        serial_number: *const u8, serial_number_len: usize, algorithm: *const u8, algorithm_len: usize, not_before: u64, not_after: u64, subject: *const u8,
-        subject_len: usize, key: *const u8, key_len: usize, signs_ocsp_responses: u32, extensions: *const u8, extensions_len: usize, out: *mut u8, room: usize,
-        written: *mut usize
-    ) -> c_int;
-    fn x509_build_subordinate(
-        serial_number: *const u8, serial_number_len: usize, algorithm: *const u8, algorithm_len: usize, issuer: *const u8, issuer_len: usize,
-        issuer_key: *const u8, issuer_key_len: usize, not_before: u64, not_after: u64, subject: *const u8, subject_len: usize, key: *const u8, key_len: usize,
-        has_path_len: u32, path_len: u32, signs_ocsp_responses: u32, client_auth: u32, extensions: *const u8, extensions_len: usize, out: *mut u8, room: usize,
-        written: *mut usize
-    ) -> c_int;
-    fn x509_build_subscriber(
-        serial_number: *const u8, serial_number_len: usize, algorithm: *const u8, algorithm_len: usize, issuer: *const u8, issuer_len: usize,
-        issuer_key: *const u8, issuer_key_len: usize, not_before: u64, not_after: u64, subject: *const u8, subject_len: usize, key: *const u8, key_len: usize,
-        client_auth: u32, key_encipherment: u32, key_agreement: u32, data_encipherment: u32, extensions: *const u8, extensions_len: usize, out: *mut u8,
-        room: usize, written: *mut usize
-    ) -> c_int;
-    fn x509_build_device(
-        serial_number: *const u8, serial_number_len: usize, algorithm: *const u8, algorithm_len: usize, issuer: *const u8, issuer_len: usize,
-        issuer_key: *const u8, issuer_key_len: usize, not_before: u64, not_after: u64, subject: *const u8, subject_len: usize, key: *const u8, key_len: usize,
-        names: *const u8, names_len: usize, extensions: *const u8, extensions_len: usize, out: *mut u8, room: usize, written: *mut usize
-    ) -> c_int;
-    fn x509_build_crl(
-        issuer: *const u8, issuer_len: usize, algorithm: *const u8, algorithm_len: usize, number: *const u8, number_len: usize, this_update: u64,
-        has_next_update: u32, next_update: u64, entries: *const u8, entries_len: usize, extensions: *const u8, extensions_len: usize, out: *mut u8, room: usize,
-        written: *mut usize
-    ) -> c_int;
-    fn x509_assemble(
-        part: *const u8, part_len: usize, algorithm: *const u8, algorithm_len: usize, signature: *const u8, signature_len: usize, out: *mut u8, room: usize,
-        written: *mut usize
-    ) -> c_int;
-}
 
 pub(crate) const RELATIVE_NAME: Fill = Fill::new(x509_relative_name_encode);
 pub(crate) const NAME: Fill = Fill::new(x509_name_build);
