@@ -12,7 +12,12 @@ import tempfile
 import time
 import tomllib
 
+sys.path.insert(0, str(pathlib.Path(__file__).resolve().parents[1]))
+from common.crates import crates_below, lines_of, path_of
+
 TOP = pathlib.Path(__file__).resolve().parents[2]
+# What takes long to read, and serves no type: matching of names, paths that are validated, and tables of Unicode.
+LARGE = {"x509_match", "x509_constraints", "x509_policy", "x509_validation", "caseless", "ucd_category", "unicode_normalization"}
 BUILD, RUN = "tools/build/build_program.py", "tools/build/run_unproved.py"
 SCRIPTS = ("x509_tool", "crates.txt", "HANDLES", "docs/GATE.md", "tools/common/crates.py", BUILD, RUN)
 # Answers by the words that the test hands on: VERB in the first line, then what `rt` prints on each stream, and its status.
@@ -107,11 +112,26 @@ def built(top, more):
     check("a source that is newer makes it stale", (ended.returncode, ended.stdout) == (0, b"0603550406\n"), ended)
 
 
+def read():
+    """What the first command waits for: all that the program stands on is read."""
+    lines = lines_of(path_of("x509_tool", crates_below()))
+    found = sorted(LARGE.intersection(" ".join(lines).replace(":", " ").split()))
+    check("the first command reads neither validated paths nor tables of Unicode", not found, found)
+
+
+def processor_seconds():
+    """Of the processes that ended."""
+    spent = os.times()
+    return spent.children_user + spent.children_system
+
+
 def real():
     """By `rt` itself."""
     tool = [TOP / RUN, "x509_tool", "reencode"]
     for given, words, status, printed in ((b"0603550406\n", ["oid"], 0, b"0603550406\n"), (b"06035504\n", ["oid"], 1, b"refused: Malformed\n")):
+        before = processor_seconds()
         ended = run(tool + words, TOP, given)
+        print(f"{processor_seconds() - before:.0f} processor seconds from the sources to the answer")
         check(f"the sources answer {printed}", (ended.returncode, ended.stdout) == (status, printed), ended)
     version = tomllib.loads((TOP / "bindings/rust/Cargo.toml").read_text(encoding="utf-8"))["package"]["version"]
     ended = run([TOP / RUN, "x509_tool", "--version"], TOP, b"")
@@ -132,6 +152,7 @@ def main():
     parser = argparse.ArgumentParser(description=__doc__)
     parser.add_argument("real", nargs="?", choices=["real"], help="run the sources by `rt` itself too")
     given = parser.parse_args()
+    read()
     with tempfile.TemporaryDirectory() as folder:
         top = pathlib.Path(folder)
         more = copy_of_scripts(top)
