@@ -12,7 +12,8 @@ SIGNATURE = re.compile(r"\b(?:ensures|requires|where|ghost)\b")
 
 @dataclasses.dataclass(frozen=True)
 class Function:
-    """A function: its file, the head of the impl or the trait that it stands in, or none, its docs and attributes, its head with its contract, and its body."""
+    """A function: its file, the head of the impl or the trait that it stands in, or none, its docs and attributes, its head with its contract, its body, and
+    the first and the last of its lines, behind the docs and from 1."""
 
     file: pathlib.Path
     block: str
@@ -21,6 +22,8 @@ class Function:
     docs: str
     head: str
     body: str
+    first: int
+    last: int
 
     @property
     def answer(self):
@@ -69,7 +72,7 @@ def functions(file):
                 at += 1
             named = NAMED.match(text)
             parts = "\n".join(lines[begin : head + 1]), "\n".join(lines[head + 1 : at])
-            yield Function(file, block, named[1] is not None, named[2], "\n".join(docs), *parts)
+            yield Function(file, block, named[1] is not None, named[2], "\n".join(docs), *parts, begin + 1, at + 1)
             docs = []
         else:
             docs = []

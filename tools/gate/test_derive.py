@@ -1,0 +1,234 @@
+#!/usr/bin/env python3
+"""Changes types in a copy of the sources, and looks what tools/build/derive.py writes of them, and what it refuses."""
+import argparse
+import pathlib
+import re
+import shutil
+import subprocess
+import sys
+import tempfile
+
+sys.path.insert(0, str(pathlib.Path(__file__).resolve().parents[1]))
+sys.dont_write_bytecode = True
+from common.crates import TOP
+from common.grammar import OF_TYPES
+
+PROBE, PROBE_SPECS = "x509_test_types/src/probe.rt", "x509_test_types/specs/Probe.antt"
+POINT, POINT_SPECS = "x509_ext/src/pkix/issuing_distribution_point.rt", "x509_ext/specs/IssuingDistributionPoint.antt"
+PLACE, PLACE_SPECS = "x509_ext/src/pkix/name/distribution_point_name.rt", "x509_ext/specs/DistributionPointName.antt"
+PLACE_CHECK, PLACE_EQUALITY = "x509_check/src/general_name.rt", "x509_ext/specs/GeneralNameEquality.antt"
+NAMES, ODD = "x509_ext/src/pkix/name_constraints.rt", "../tools/data/odd_glue.txt"
+POINT_CHECK, POINT_EQUALITY = "x509_check/src/constraint.rt", "x509_ext/specs/RevocationEquality.antt"
+# a field more of a type: in its struct, in the ASN.1 of its docs, and in the comment and the grammar line of its specs
+PROBE_FIELD = (
+    (PROBE, "    pub d: ObjectIdentifier,\n", "    pub d: ObjectIdentifier,\n\n    /// One more.\n    pub e: Option<BitString>,\n"),
+    (PROBE, "OBJECT IDENTIFIER }", "OBJECT IDENTIFIER,\n///     e   [2] IMPLICIT BIT STRING OPTIONAL }"),
+    (PROBE_SPECS, ", d: OBJECT IDENTIFIER\n", ", d: OBJECT IDENTIFIER, e: [2]BIT STRING?\n"),
+    (PROBE_SPECS, "⊗ required object_identifier))\n", "⊗ (required object_identifier ⊗ optional (implicit 2 bit_string))))\n"),
+)
+POINT_FIELD = (
+    (POINT, "_attribute_certs: bool,\n}", "_attribute_certs: bool,\n\n    /// More.\n    pub more: Option<BitString>,\n}"),
+    (POINT, "BOOLEAN DEFAULT FALSE }", "BOOLEAN DEFAULT FALSE,\n///     more                        [6] EXPLICIT BIT STRING OPTIONAL }"),
+    (POINT_SPECS, "[5]BOOLEAN=FALSE (", "[5]BOOLEAN=FALSE, more: {6}BIT STRING? ("),
+    (POINT_SPECS, "⊗ said_or_not 5))\n", "⊗ (said_or_not 5 ⊗ optional (explicit 6 bit_string))))\n"),
+)
+PROBE_FIELD_GONE = (
+    (PROBE, "    /// A field with a default.\n    pub c: bool,\n\n", ""),
+    (PROBE, "///     c   BOOLEAN DEFAULT FALSE,\n", ""),
+    (PROBE_SPECS, " c: BOOLEAN=FALSE,", ""),
+    (PROBE_SPECS, "⊗ (defaulted boolean_default boolean ⊗ required object_identifier))\n", "⊗ required object_identifier)\n"),
+)
+PLACE_CASE = (
+    (PLACE, "(RelativeDistinguishedName),\n}", "(RelativeDistinguishedName),\n\n    /// More.\n    Other(OctetString),\n}"),
+    (PLACE_SPECS, "relative_distinguished_name ∥ none\n", "relative_distinguished_name ∥ Other holds implicit 2 octet_string ∥ none\n"),
+)
+# what is changed, the file for which it is run, and what then stands in which file
+WRITTEN = (
+    (
+        PROBE_FIELD,
+        PROBE,
+        {
+            PROBE: (
+                "        let e = read_optional_implicit::<BitString>(alloc, 2, &mut rest)?;\n        end(rest)?;\n        Ok(Probe { a, b, c, d, e })\n",
+                "(defaulted(&self.c), (&self.d, optional_implicit(2, &self.e))),\n",
+                "                    (\n"
+                "                        both(&self.d, &other.d),\n"
+                "                        both_optional_implicit(2, &self.e, &other.e),\n"
+                "                    ),\n",
+                "use x509_prim::{BitString, OctetString};\n",
+            ),
+            PROBE_SPECS: (
+                "probe_fields : Part (ℕ × (Option (List ℕ) × (Bool × (List ℕ × Option BitParts))))\n",
+                "(λ p. (p.a, (p.b, (p.c, (p.d, p.e))))) (λ (a, (b, (c, (d, e)))). record { a = a; b = b; c = c; d = d; e = e }) probe_fields\n",
+                "probe_cmp : PartOrder (ℕ × (Option (List ℕ) × (Bool × (List ℕ × Option BitParts))))\n",
+                "probe_order = by_parts (λ p. (p.a, (p.b, (p.c, (p.d, p.e))))) probe_cmp\n",
+            ),
+        },
+    ),
+    (
+        PROBE_FIELD_GONE,
+        PROBE,
+        {
+            PROBE: (
+                "        let parts = (\n            defaulted_explicit(0, &self.a),\n            (optional_implicit(1, &self.b), &self.d),\n        );\n",
+                "    CmpPart, Content, Error, ObjectIdentifier, PutPart, Room, Tag, ValueOrd, both,\n"
+                "    both_defaulted_explicit, both_optional_implicit, defaulted_explicit, end, optional_implicit,\n"
+                "    read_defaulted_explicit, read_field, read_optional_implicit,\n",
+            ),
+        },
+    ),
+    (
+        POINT_FIELD,
+        POINT,
+        {
+            POINT: (
+                "            only_contains_attribute_certs: _,\n            more: _,\n        } = self;\n",
+                "            only_contains_attribute_certs: self.only_contains_attribute_certs,\n            more: self.more.try_clone(alloc)?,\n",
+                "        let more = read_optional_explicit::<BitString>(alloc, 6, &mut rest)?;\n        end(rest)?;\n",
+                "                (\n"
+                "                    defaulted_implicit(5, &self.only_contains_attribute_certs),\n"
+                "                    optional_explicit(6, &self.more),\n"
+                "                ),\n",
+                "\n};\nuse x509_prim::BitString;\n\n",
+            ),
+            POINT_CHECK: (
+                "        check_defaulted_implicit::<bool>(5, &mut rest)?;\n        check_optional_explicit::<BitString>(6, &mut rest)?;\n        end(rest)\n",
+                "use x509_prim::{BitString, read_named_bits, read_named_number};\n",
+            ),
+            POINT_SPECS: (
+                "Part ((Option DistributionPointName × (Bool × Bool)) × (Option Reasons × (Bool × (Bool × Option BitParts))))\n",
+                "(i.only_some_reasons, (i.indirect_crl, (i.only_contains_attribute_certs, i.more)))))\n",
+            ),
+            POINT_EQUALITY: (
+                "(exact_both exact_bool (exact_both exact_bool (exact_option exact_bit_string)))))))\n",
+                "use Rattle.x509_prim.specs.Equality.{exact_bit_string}\n",
+            ),
+        },
+    ),
+    (
+        PLACE_CASE,
+        PLACE,
+        {
+            PLACE: (
+                "            DistributionPointName::Other(_) => {}\n        }\n",
+                "            DistributionPointName::Other(other) => {\n                DistributionPointName::Other(other.try_clone(alloc)?)\n            }\n",
+                "            DistributionPointName::Other(_) => implicit_identifier::<OctetString>(2),\n",
+                "        matches!(octet, 0xA0 | 0xA1 | 0x82)\n",
+                "            0x82 => DistributionPointName::Other(OctetString::read_content(alloc, content)?),\n",
+                "            DistributionPointName::Other(other) => other.put_content(room),\n",
+                "            DistributionPointName::Other(other) => other.has_spelling(),\n",
+                "use x509_prim::OctetString;\n",
+            ),
+            PLACE_CHECK: ("            0x82 => OctetString::pass_content(content),\n            _ => Err(ErrorKind::Malformed.into()),\n",),
+            PLACE_EQUALITY: ("(exact_last rdn_decides, (exact_last exact_octets, tt)))\n",),
+        },
+    ),
+)
+# what is changed so that a type and its grammar don't say the same, and what `--check` says
+UNLIKE = (
+    (PROBE_FIELD[:3], "Probe has 5 fields, and x509_test_types::specs::Probe::probe_fields 4"),
+    ((PROBE_FIELD[0], *PROBE_FIELD[2:]), "Probe has 5 fields, and its docs 4"),
+    ((*PROBE_FIELD[:2], PROBE_FIELD[3]), "Probe has 5 fields, and its comment 0"),
+    (((PROBE, "[1] IMPLICIT", "[1] EXPLICIT"),), "Probe.b is optional explicit 1 in its docs, and optional implicit 1 in "),
+    (((PROBE_SPECS, "c: BOOLEAN=FALSE", "c: BOOLEAN"),), "Probe.c is required in its comment, and defaulted in "),
+    (((PROBE, "Option<OctetString>,", "OctetString,"),), "Probe.b is OctetString, and optional implicit 1 in "),
+    (PLACE_CASE[:1], "DistributionPointName has other cases than x509_ext::specs::DistributionPointName::distribution_point_name_cases"),
+)
+# what is changed at once, and what `--check` says of it
+FAULTS = (
+    (NAMES, "            excluded_subtrees: _,\n", ""),
+    (POINT_EQUALITY, "exact_reasons = exact_by (λ (r : Reasons). r.0)", "exact_reasons = exact_by (λ (r : Reasons). r)"),
+    (ODD, "# ---- x509_sct\n", f"# ---- x509_sct\n{NAMES} TryClone NameConstraints: why\n{NAMES} Drop Nothing: why\n"),
+    (ODD, ": has no content\n", "\n"),
+)
+FOUND = (
+    f"failed: {NAMES} Drop NameConstraints: it isn't what tools/build/derive.py writes\n",
+    f"failed: {POINT_EQUALITY} equality exact_reasons: it isn't what tools/build/derive.py writes\n",
+    f"failed: {NAMES} TryClone NameConstraints: it is what would be written",
+    f"failed: {NAMES} Drop Nothing: there is no such thing",
+    "failed: x509_sct/src/poison.rt Content CtPrecertificatePoison: no reason",
+    "+            excluded_subtrees: _,\n",
+)
+# impls that are taken out of a file, and written again
+TRAITS = ("Drop", "TryClone", "Content", "Spelled")
+
+
+def copied(folder):
+    """Puts the sources of types and the tools into a folder."""
+    shutil.copytree(TOP / "tools", folder / "tools", ignore=shutil.ignore_patterns("__pycache__", "*.gz"))
+    for crate in OF_TYPES:
+        for part in ("src", "specs"):
+            shutil.copytree(TOP / "crates" / crate / part, folder / "crates" / crate / part)
+
+
+def run(folder, *arguments):
+    return subprocess.run([sys.executable, "-B", folder / "tools" / "build" / "derive.py", *arguments], capture_output=True, encoding="utf-8", check=False)
+
+
+class Copy:
+    """A copy with some changes, which it takes back."""
+
+    def __init__(self, folder, changes):
+        self.folder, self.changes = folder, changes
+
+    def __enter__(self):
+        self.texts = {file: file.read_text(encoding="utf-8") for file in (self.folder / "crates").rglob("*") if file.suffix in (".rt", ".antt")}
+        self.texts |= {file: file.read_text(encoding="utf-8") for file in (self.folder / "crates" / name for name, _, _ in self.changes)}
+        for name, old, new in self.changes:
+            file = self.folder / "crates" / name
+            text = file.read_text(encoding="utf-8")
+            if old not in text:
+                raise ValueError(f"{name} has no {old!r}")
+            file.write_text(text.replace(old, new, 1), encoding="utf-8")
+
+    def __exit__(self, *_):
+        for file, text in self.texts.items():
+            if file.read_text(encoding="utf-8") != text:
+                file.write_text(text, encoding="utf-8")
+
+
+def faults(folder):
+    crates = folder / "crates"
+    for changes, file, wanted in WRITTEN:
+        with Copy(folder, changes):
+            run(folder, file)
+            for name, texts in wanted.items():
+                text = (crates / name).read_text(encoding="utf-8")
+                yield from (f"{name} has no {it!r}" for it in texts if it not in text)
+            if (after := run(folder, "--check")).returncode:
+                yield f"{file}: what was written isn't what would be: {after.stdout}"
+    for changes, wanted in UNLIKE:
+        with Copy(folder, changes):
+            found = run(folder, "--check")
+            if not found.returncode or wanted not in found.stdout:
+                yield f"no {wanted!r} in {found.stdout}"
+    with Copy(folder, FAULTS):
+        found = run(folder, "--check")
+        for wanted in FOUND:
+            if not found.returncode or wanted not in found.stdout:
+                yield f"no {wanted!r} in {found.stdout}"
+    whole = (crates / NAMES).read_text(encoding="utf-8")
+    parts = [re.search(rf"\n(?:#\[.*\n)?impl {trait} for NameConstraints {{\n(?:.*\n)*?}}\n", whole)[0] for trait in TRAITS]
+    with Copy(folder, [(NAMES, part, "") for part in parts]):
+        run(folder, NAMES)
+        run(folder, PROBE, "Probe")
+        for name in (NAMES, PROBE):
+            if (crates / name).read_bytes() != (TOP / "crates" / name).read_bytes():
+                yield f"{name} isn't written as it was"
+
+
+def main():
+    argparse.ArgumentParser(description=__doc__).parse_args()
+    with tempfile.TemporaryDirectory() as made:
+        folder = pathlib.Path(made)
+        copied(folder)
+        found = list(faults(folder))
+    for it in found:
+        print(f"failed: derive.py: {it}")
+    if not found:
+        print(f"passed: derive.py: {len(WRITTEN)} changes of types are written, {len(UNLIKE) + len(FAULTS)} faults are found")
+    return int(bool(found))
+
+
+if __name__ == "__main__":
+    sys.exit(main())
