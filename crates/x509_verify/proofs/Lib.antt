@@ -1,5 +1,6 @@
 pub mod Entries
 pub mod Gathering
+pub mod Remaining
 pub mod Keys
 pub mod Counting
 pub mod WithinLimits

@@ -71,7 +71,8 @@ fn latest_first<'a>(
 }
 
 impl<'a> Pool<'a> {
-    ghost use Rattle.std.specs.Prelude.{◌↔◌, ℕ, List, Contains, IfOk, map};
+    ghost use Rattle.std.specs.Prelude.{◌↔◌, ◌≢◌, ℕ, List, Contains, IfOk, map};
+    ghost use Rattle.x509_verify.specs.Given.{candidates_of};
     ghost use Rattle.x509_verify.specs.Named.{IsDecodable};
 
     /// Those of the candidates that are the encodings of certificates: no other can stand in a path. Names are compared as they
@@ -92,6 +93,27 @@ impl<'a> Pool<'a> {
         }
         Ok(Pool {
             entries: in_order(latest_first(entries)?)?,
+        })
+    }
+
+    /// The candidates but this certificate, for a search that leaves it out.
+    ///
+    /// # Errors
+    ///
+    /// When out of memory.
+    pub fn without(&self, alloc: Global, certificate: &[u8]) -> Result<Pool<'a>, AllocError>
+        ensures { IfOk result (λ rest. (bytes : List ℕ) → Contains (candidates_of rest) bytes ↔ (Contains (candidates_of self.now) bytes × (bytes ≢ certificate.now))) }
+    {
+        let known = self.entries.as_slice();
+        let mut entries = Vec::new(alloc);
+        for place in 0..known.len() {
+            let candidate = &known[place].value;
+            if candidate.certificate.as_bytes() != certificate {
+                entries.push(entry_of(alloc, candidate.certificate)?)?;
+            }
+        }
+        Ok(Pool {
+            entries: in_order(entries)?,
         })
     }
 }

@@ -1,0 +1,3 @@
+pub mod Peers
+pub mod Limits
+pub mod Searched
