@@ -1,5 +1,6 @@
 pub mod Order
 pub mod Putting
+pub mod Counting
 pub mod Looking
 pub mod Elements
 pub mod Entries

@@ -16,9 +16,9 @@ pub(crate) fn front_content(bytes: &[u8], usual: Tag) -> &[u8]
     }
 }
 
-/// The octets from the place on.
+/// The octets from the place on; none where there are no more than that.
 #[inline(always)]
-pub(crate) fn octets_at(octets: &[u8], place: u32) -> &[u8]
+pub fn octets_at(octets: &[u8], place: u32) -> &[u8]
     ensures { result.now ≡ drop place octets.now }
 {
     let place = place as usize;

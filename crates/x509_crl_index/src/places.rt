@@ -34,8 +34,22 @@ fn sort_places(octets: &[u8], places: &mut [u32])
         .then(a.cmp(b)));
 }
 
-/// Makes the index of the entries of which the octets are the elements, one after the other.
-pub(crate) fn index_places(octets: &[u8], places: &mut [u32])
+/// How many places an index of the octets has ([`index_places`]): one for each of the elements that they are, one after the other.
+pub fn place_count(octets: &[u8]) -> usize
+    ensures { result ≡ length (places_in octets.now) }
+{
+    let mut count = 0;
+    let mut rest = octets;
+    while let Ok(piece) = split_usual(rest, Tag::Sequence) {
+        count += 1;
+        rest = piece.rest;
+    }
+    count
+}
+
+/// Makes the index of the entries of which the octets are the elements, one after the other. The steps grow with n log n for n
+/// entries.
+pub fn index_places(octets: &[u8], places: &mut [u32])
     requires within { length octets.now ≤ limit }
     requires room { length places.old ≡ length (places_in octets.now) }
     ensures { IsIndex octets.now places.new }
@@ -44,8 +58,9 @@ pub(crate) fn index_places(octets: &[u8], places: &mut [u32])
     sort_places(octets, places);
 }
 
-/// The place of the first entry with the serial number, by an index. Of any other places it is one with the number, or none.
-pub(crate) fn place_of(octets: &[u8], places: &[u32], number: &[u8]) -> Option<u32>
+/// The place of the first entry whose serial number has these content octets, by an index ([`index_places`]); `None` where no entry
+/// has it. Of any other places it is one where an element with that number in front stands, or none.
+pub fn place_of(octets: &[u8], places: &[u32], number: &[u8]) -> Option<u32>
     ensures number { IfSome result (λ place. specs.number_at octets.now place ≡ number.now) }
     ensures first { IsIndex octets.now places.now → FindsPlace octets.now number.now (places_in octets.now) result }
 {
