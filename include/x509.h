@@ -951,6 +951,22 @@ x509_status x509_crl_issued_next(const uint8_t *value, size_t len, size_t *at, x
  * Answers X509_OK, X509_MEMORY, X509_OVERLENGTH, X509_MALFORMED, X509_ABSENT. */
 x509_status x509_crl_entry_find(const uint8_t *value, size_t len, const uint8_t *serial_number, size_t serial_number_len, x509_crl_entry *found);
 
+/* Makes an index of a list of entries, for a CRL that is asked often; `value` is `entries` of the view of a CRL, which is checked once more. A number for each
+ * entry goes to the front of index[0..room): its place in the content of the list, in the order of the bytes of the serial numbers. `*written` is how many
+ * entries there are, at X509_ROOM too, which is answered where they are more than `room`. Unless the answer is X509_OK, index[0..room) is unchanged. The time
+ * for n entries grows with n log n. It takes no memory. X509_MALFORMED where the bytes are no list of entries, as where `entries` is 0 and 0.
+ * Answers X509_OK, X509_ROOM, X509_OVERLENGTH, X509_MALFORMED. */
+x509_status x509_crl_index(const uint8_t *value, size_t len, uint32_t *index, size_t room, size_t *written);
+
+/* Finds the first entry with a serial number by an index, index[0..count), which is what x509_crl_index made of these bytes: what x509_crl_entry_find answers of
+ * them is answered, in a time that grows with the logarithm of how many entries there are. Neither the bytes nor the index is checked: of the list no more is
+ * read than some of its numbers and the entry that is found. By any other numbers, as those of another list, nothing is read outside the bytes, and X509_OK
+ * fills in an entry with that serial number that stands in them, though it may not be the first, or stand within another value; else the answer is X509_ABSENT
+ * or X509_MALFORMED, whatever the list has.
+ * Answers X509_OK, X509_MEMORY, X509_OVERLENGTH, X509_MALFORMED, X509_ABSENT. */
+x509_status x509_crl_index_find(const uint8_t *value, size_t len, const uint32_t *index, size_t count, const uint8_t *serial_number, size_t serial_number_len,
+                                x509_crl_entry *found);
+
 /* ---- revocation */
 
 /* Says whether the key of a certificate may sign CRLs (RFC 5280 4.2.1.3, 6.3.3 (f)): `*may_sign` is 1 where the certificate has no KeyUsage, or one that can be

@@ -670,6 +670,63 @@ static void found_entries(const uint8_t *entries, size_t len)
     WANT(x509_crl_entry_find(BYTES("\x30\x00\x05\x00"), BYTES("\x02\x01\x05"), &entry) == X509_MALFORMED && is_at(entry.serial_number, 4, 3));
 }
 
+/* The indexes of these lists, whose entries stand two octets further in front in the content, and what is found by them; and by numbers that are no index. */
+static void indexed_entries(const uint8_t *entries, size_t len)
+{
+    uint32_t index[4] = {7, 7, 7, 7};
+    size_t count = 77;
+    WANT(x509_crl_index(nothing, 0, index, 4, &count) == X509_MALFORMED && x509_crl_index(entries, len - 1, index, 4, &count) == X509_MALFORMED);
+    WANT(x509_crl_index(BYTES("\x30\x05\x30\x03\x02\x01\x05"), index, 4, &count) == X509_MALFORMED && count == 77 && index[0] == 7);
+    WANT(x509_crl_index(entries, len, NULL, 0, &count) == X509_ROOM && count == 3);
+    count = 77;
+    WANT(x509_crl_index(entries, len, index, 2, &count) == X509_ROOM && count == 3 && index[0] == 7 && index[1] == 7);
+    WANT(x509_crl_index(BYTES("\x30\x00"), NULL, 0, &count) == X509_OK && count == 0);
+    WANT(x509_crl_index(entries, len, index, 4, &count) == X509_OK && count == 3);
+    /* in the order 01, 03, 12 34 .. */
+    WANT(index[0] == 0 && index[1] == 61 && index[2] == 20);
+    index[0] = index[1] = index[2] = 7;
+    WANT(x509_crl_index(entries, len, index, 3, &count) == X509_OK && index[0] == 0 && index[1] == 61 && index[2] == 20);
+
+    x509_crl_entry entry = {{7, 7}, 7, {7, 7}};
+    WANT(x509_crl_index_find(entries, len, index, 3, BYTES("\x02\x01\x02"), &entry) == X509_ABSENT
+         && x509_crl_index_find(entries, len, index, 3, BYTES("\x02\x01\x00"), &entry) == X509_ABSENT
+         && x509_crl_index_find(entries, len, index, 3, BYTES("\x02\x01\x13"), &entry) == X509_ABSENT);
+    WANT(x509_crl_index_find(entries, len, index, 3, BYTES("\x02\x00"), &entry) == X509_MALFORMED
+         && x509_crl_index_find(entries, len, index, 3, BYTES("\x04\x01\x03"), &entry) == X509_MALFORMED);
+    WANT(x509_crl_index_find(nothing, 0, index, 3, BYTES("\x02\x01\x03"), &entry) == X509_MALFORMED
+         && x509_crl_index_find(entries, len - 1, index, 3, BYTES("\x02\x01\x03"), &entry) == X509_MALFORMED);
+    WANT(is_at(entry.serial_number, 7, 7) && entry.date == 7 && is_at(entry.extensions, 7, 7));
+    WANT(x509_crl_index_find(entries, len, index, 3, BYTES("\x02\x08\x12\x34\x56\x78\x90\xab\xcd\xef"), &entry) == X509_OK);
+    WANT(is_at(entry.serial_number, 24, 10) && entry.date == 1768903200 && is_at(entry.extensions, 49, 14));
+    WANT(x509_crl_index_find(entries, len, index, 3, BYTES("\x02\x01\x01"), &entry) == X509_OK && is_at(entry.serial_number, 4, 3)
+         && is_at(entry.extensions, 0, 0));
+    WANT(x509_crl_index_find(entries, len, index, 3, BYTES("\x02\x01\x03"), &entry) == X509_OK && is_at(entry.serial_number, 65, 3));
+    WANT(x509_crl_index_find(BYTES("\x30\x00"), NULL, 0, BYTES("\x02\x01\x05"), &entry) == X509_ABSENT);
+
+    /* the first of two */
+    const char twice[] = "\x30\x3c\x30\x12\x02\x01\x05\x17\x0d" "260101000000Z" "\x30\x12\x02\x01\x06\x17\x0d" "260102000000Z"
+                         "\x30\x12\x02\x01\x05\x17\x0d" "260103000000Z";
+    WANT(x509_crl_index(BYTES(twice), index, 3, &count) == X509_OK && count == 3 && index[0] == 0 && index[1] == 40 && index[2] == 20);
+    WANT(x509_crl_index_find(BYTES(twice), index, 3, BYTES("\x02\x01\x05"), &entry) == X509_OK && is_at(entry.serial_number, 4, 3)
+         && entry.date == 1767225600);
+    WANT(x509_crl_index_find(BYTES(twice), index, 3, BYTES("\x02\x01\x06"), &entry) == X509_OK && is_at(entry.serial_number, 24, 3));
+
+    /* no indexes: of no place, of places outside and of one that begins no entry; of one within the value of an extension, where an entry stands or none */
+    const uint32_t others[] = {0xffffffff, 81, 80, 5}, within[] = {29};
+    WANT(x509_crl_index_find(entries, len, NULL, 0, BYTES("\x02\x01\x03"), &entry) == X509_ABSENT);
+    for (size_t at = 0; at < 4; at++)
+        WANT(x509_crl_index_find(entries, len, others + at, 1, BYTES("\x02\x01\x03"), &entry) == X509_ABSENT);
+    WANT(x509_crl_index_find(entries, len, others, 4, BYTES("\x02\x01\x03"), &entry) == X509_ABSENT && is_at(entry.serial_number, 24, 3));
+    const char inner[] = "\x30\x31\x30\x2f\x02\x01\x05\x17\x0d" "260101000000Z" "\x30\x1b\x30\x19\x06\x01\x2a\x04\x14"
+                         "\x30\x12\x02\x01\x09\x17\x0d" "260102000000Z";
+    WANT(x509_crl_index(BYTES(inner), index, 1, &count) == X509_OK && count == 1 && index[0] == 0);
+    WANT(x509_crl_index_find(BYTES(inner), index, 1, BYTES("\x02\x01\x09"), &entry) == X509_ABSENT);
+    WANT(x509_crl_index_find(BYTES(inner), within, 1, BYTES("\x02\x01\x09"), &entry) == X509_OK && is_at(entry.serial_number, 33, 3)
+         && entry.date == 1767312000);
+    const char dateless[] = "\x30\x22\x30\x20\x02\x01\x05\x17\x0d" "260101000000Z" "\x30\x0c\x30\x0a\x06\x01\x2a\x04\x05" "\x30\x03\x02\x01\x09";
+    WANT(x509_crl_index_find(BYTES(dateless), within, 1, BYTES("\x02\x01\x09"), &entry) == X509_MALFORMED && is_at(entry.serial_number, 33, 3));
+}
+
 /* The front of an entry with a number, and an extension that names its issuer by a DNS name. */
 #define ENTRY_OF(len, number) "\x30" len "\x02\x01" number "\x17\x0d" "260101000000Z"
 #define ISSUED_BY(name) "\x30\x0f\x06\x03\x55\x1d\x1d\x01\x01\xff\x04\x05\x30\x03\x82\x01" name
@@ -943,6 +1000,7 @@ static void crl_parts(void)
     at = 1;
     WANT(x509_crl_entry_next(entries, view.entries.len, &at, &entry) == X509_MALFORMED && at == 1 && is_at(entry.serial_number, 65, 3));
     found_entries(entries, view.entries.len);
+    indexed_entries(entries, view.entries.len);
     issued_entries();
 
     /* A v1 list without entries, of the issuer CN=a; and a v2 list with an empty SEQUENCE of extensions, by hand. */

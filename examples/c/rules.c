@@ -249,6 +249,9 @@ static void refused_values(const uint8_t *bytes, size_t len, x509_status status)
     WANT(x509_crl_issued_next(bytes, len, &at, &part, &entry) == status);
     WANT(x509_crl_entry_find(bytes, len, SERIAL, 3, &entry) == status);
     WANT(x509_crl_entry_find(bytes, len, NULL, 0, &entry) == X509_MALFORMED);
+    WANT(x509_crl_index(bytes, len, NULL, 0, &written) == status);
+    WANT(x509_crl_index_find(bytes, len, NULL, 0, SERIAL, 3, &entry) == status);
+    WANT(x509_crl_index_find(bytes, len, NULL, 0, NULL, 0, &entry) == X509_MALFORMED);
     WANT(x509_request_view(bytes, len, &request) == status);
     WANT(x509_request_attribute_next(bytes, len, &at, &asked) == status);
     WANT(x509_request_attribute_find(bytes, len, OID, 3, &asked) == status);

@@ -144,6 +144,15 @@ class Extensions(unittest.TestCase):
         empty = ours.load_der_x509_crl(hexed(f"302d3022{front[6:]}{behind}"))
         self.assertEqual((list(empty.issued_entries()), empty.get_revoked_certificate_by_serial_number(5)), ([], None))
 
+    def test_entries_by_their_numbers(self) -> None:
+        """The first of several with one number: of a CRL of v1 of CN=a by hand (RFC 5280 5.1) with the entries 5, 600, 5 and 6, each of a day of its own."""
+        dates = ["170d" + f"26010{day}000000Z".encode().hex() for day in (1, 2, 3, 4)]
+        entries = f"3012020105{dates[0]}301302020258{dates[1]}3012020105{dates[2]}3012020106{dates[3]}"
+        front, behind = "300306012a300c310a300806035504030c0161170d" + b"700101000001Z".hex(), "300306012a030204f0"
+        crl = ours.load_der_x509_crl(hexed(f"3081803075{front}3051{entries}{behind}"))
+        found = {number: crl.get_revoked_certificate_by_serial_number(number) for number in (5, 6, 600, 0, 1, 7, 601, 2**80)}
+        self.assertEqual({number: it.revocation_date_utc.day for number, it in found.items() if it is not None}, {5: 1, 6: 4, 600: 2})
+
     def test_directory_attributes(self) -> None:
         # RFC 3739 3.2.2: the country of citizenship DE, and the gender M
         citizenship, gender = ours.ObjectIdentifier("1.3.6.1.5.5.7.9.4"), ours.ObjectIdentifier("1.3.6.1.5.5.7.9.3")

@@ -291,7 +291,7 @@ impl<'a> CrlRef<'a> {
     }
 
     /// The first entry with a serial number, given by the content octets of an INTEGER. The issuer isn't compared (RFC 5280 5.3.3). The CRL isn't
-    /// checked once more, so that this is the call for many look-ups.
+    /// checked once more; for many look-ups [`index`](CrlRef::index) is faster still.
     ///
     /// # Errors
     /// [`Error::Malformed`] where the octets are no serial number's, which are at most 21; [`Error::Memory`].
@@ -306,6 +306,19 @@ impl<'a> CrlRef<'a> {
         found
             .map(|view| CrlEntry::found(&view, entries))
             .transpose()
+    }
+
+    /// An index of its entries, for a CRL that is asked often: it takes four bytes an entry.
+    ///
+    /// # Errors
+    /// [`Error::Memory`].
+    pub fn index(&self) -> Result<CrlIndex<'a>, Error> {
+        let entries = self.part(self.view.entries);
+        let places = match entries {
+            [] => Vec::new(),
+            entries => ffi::crl_index(entries, self.len)?,
+        };
+        Ok(CrlIndex { entries, places })
     }
 
     /// All that it has, as lines for people: each is a label and a text, and no text of the CRL can forge a line or turn its order round.
@@ -339,6 +352,43 @@ impl<'a> CrlRef<'a> {
             view: self.view,
             len: self.len,
         }
+    }
+}
+
+/// An index of the entries of a CRL, which [`CrlRef::index`] makes. A look-up by it takes a time that grows with the logarithm of how many entries there are,
+/// where [`CrlRef::entry`] looks at each up to the one that it finds. Both find the same.
+///
+/// ```
+/// use x509_rattle::CrlRef;
+///
+/// # let list = include_bytes!("../../../examples/data/list.der");
+/// let crl = CrlRef::from_der(list)?;
+/// let index = crl.index()?;
+/// assert!(index.find(&[3])?.is_some());
+/// assert!(index.find(&[2])?.is_none());
+/// # Ok::<(), x509_rattle::Error>(())
+/// ```
+#[derive(Clone, Debug)]
+pub struct CrlIndex<'a> {
+    entries: &'a [u8],
+    places: Vec<u32>,
+}
+
+impl<'a> CrlIndex<'a> {
+    /// The first entry with a serial number, given by the content octets of an INTEGER. The issuer isn't compared (RFC 5280 5.3.3).
+    ///
+    /// # Errors
+    /// As of [`CrlRef::entry`].
+    pub fn find(&self, serial_number: &[u8]) -> Result<Option<CrlEntry<'a>>, Error> {
+        let element = Integer(serial_number).element()?;
+        if self.entries.is_empty() {
+            ffi::SERIAL_NUMBER.of(&element)?;
+            return Ok(None);
+        }
+        let found = ffi::crl_index_find(self.entries, &self.places, &element)?;
+        found
+            .map(|view| CrlEntry::found(&view, self.entries))
+            .transpose()
     }
 }
 
@@ -491,6 +541,12 @@ impl Crl {
         /// # Errors
         /// As of [`CrlRef::entry`].
         pub fn entry(&self, serial_number: &[u8]) -> Result<Option<CrlEntry<'_>>, Error>;
+
+        /// An index of its entries, for a CRL that is asked often.
+        ///
+        /// # Errors
+        /// As of [`CrlRef::index`].
+        pub fn index(&self) -> Result<CrlIndex<'_>, Error>;
 
         /// All that it has, as lines for people.
         ///

@@ -522,6 +522,42 @@ pub(crate) fn crl_issued_next(
     }
 }
 
+/// The index of a list that has so many entries.
+pub(crate) fn crl_index(entries: &[u8], count: usize) -> Result<Vec<u32>, Error> {
+    let mut index = Vec::new();
+    index.try_reserve_exact(count).map_err(|_| Error::Memory)?;
+    index.resize(count, 0);
+    let mut written = 0;
+    // SAFETY: the header lets the call read `entries`, which is lent for it, and write to `index[0..room)`, which `index` owns, and to `written`.
+    let status = unsafe {
+        x509_crl_index(
+            entries.as_ptr(),
+            entries.len(),
+            index.as_mut_ptr(),
+            index.len(),
+            &mut written,
+        )
+    };
+    index.truncate(written);
+    accepted(status, index)
+}
+
+/// The entry of a list that has the serial number with this DER, by an index of any numbers.
+pub(crate) fn crl_index_find(
+    entries: &[u8],
+    index: &[u32],
+    serial_number: &[u8],
+) -> Result<Option<CrlEntry>, Error> {
+    let mut found = CrlEntry::default();
+    // SAFETY: the header lets the call read the three slices, which are lent for it, and fill in `found`.
+    let status =
+        unsafe { lent!(x509_crl_index_find: [entries], [index], [serial_number], (&mut found)) };
+    match status {
+        ABSENT => Ok(None),
+        status => accepted(status, Some(found)),
+    }
+}
+
 /// Whether two names match.
 pub(crate) fn names_match(a: &[u8], b: &[u8]) -> Result<bool, Error> {
     let mut matches = 0;

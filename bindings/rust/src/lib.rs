@@ -61,7 +61,7 @@ pub use certificate::{
     Certificate, CertificateRef, Signature, UniqueIdentifier, Validity, Version,
 };
 pub use controls::{PathControls, PolicyFlags};
-pub use crl::{Crl, CrlEntries, CrlEntry, CrlRef, IssuedEntries, Revocation};
+pub use crl::{Crl, CrlEntries, CrlEntry, CrlIndex, CrlRef, IssuedEntries, Revocation};
 pub use csr::{AttributeValue, AttributeValues, Csr, CsrAttribute, CsrAttributes, CsrRef};
 pub use error::{Error, ProfilePart};
 pub use extension::{Extension, Extensions, ParsedExtension};

@@ -95,6 +95,52 @@ fn entries_by_their_numbers() {
     assert!(it.entry(&[2]).expect("a look-up").is_none());
 }
 
+#[test]
+fn entries_by_an_index() {
+    let it = crl();
+    let index = it.index().expect("an index");
+    let number = [0x12, 0x34, 0x56, 0x78, 0x90, 0xab, 0xcd, 0xef];
+    let found = index.find(&number).expect("a look-up").expect("an entry");
+    assert_eq!(found.serial_number.as_bytes(), number);
+    assert_eq!(found.date, UNIX_EPOCH + Duration::from_secs(1_768_903_200));
+    assert_eq!(found.reason(), Ok(Some(CrlReason::KeyCompromise)));
+    for number in [1, 3] {
+        let found = index.find(&[number]).expect("a look-up").expect("an entry");
+        assert_eq!(found.serial_number.to_u128(), Some(u128::from(number)));
+        assert_eq!(found.extensions().count(), 0);
+    }
+    for absent in [&[0][..], &[2], &[4], &number[..7]] {
+        assert!(index.find(absent).expect("a look-up").is_none());
+    }
+    for bad in [&[][..], &[0, 3], &[1; 22]] {
+        assert_eq!(index.find(bad).err(), Some(Error::Malformed));
+    }
+}
+
+/// A v1 CRL of the issuer CN=a by hand, whose entries are 5, 6 and 5, a day after each other (RFC 5280 5.1).
+const TWICE: &[u8] = b"\x30\x6b\x30\x60\x30\x03\x06\x01\x2a\x30\x0c\x31\x0a\x30\x08\x06\x03\x55\x04\x03\x0c\x01\x61\x17\x0d700101000001Z\
+\x30\x3c\x30\x12\x02\x01\x05\x17\x0d260101000000Z\x30\x12\x02\x01\x06\x17\x0d260102000000Z\x30\x12\x02\x01\x05\x17\x0d260103000000Z\
+\x30\x03\x06\x01\x2a\x03\x02\x04\xf0";
+
+#[test]
+fn the_first_of_several_by_an_index() {
+    let it = CrlRef::from_der(TWICE).expect("a CRL");
+    let index = it.index().expect("an index");
+    // 2026-01-01T00:00:00Z
+    let date = |number| {
+        let found = index.find(&[number]).expect("a look-up")?;
+        Some(
+            found
+                .date
+                .duration_since(UNIX_EPOCH)
+                .expect("a moment")
+                .as_secs()
+                - 1_767_225_600,
+        )
+    };
+    assert_eq!((date(5), date(6), date(7)), (Some(0), Some(86_400), None));
+}
+
 /// A v1 CRL of the issuer CN=a without a list of entries, by hand (RFC 5280 5.1).
 const EMPTY: &[u8] = b"\x30\x2d\x30\x22\x30\x03\x06\x01\x2a\x30\x0c\x31\x0a\x30\x08\x06\x03\x55\x04\x03\x0c\x01\x61\x17\x0d700101000001Z\
     \x30\x03\x06\x01\x2a\x03\x02\x04\xf0";
@@ -139,6 +185,9 @@ fn no_list_of_entries() {
     assert!(it.is_empty());
     assert!(it.entry(&[3]).expect("a look-up").is_none());
     assert_eq!(it.entry(&[0, 3]).err(), Some(Error::Malformed));
+    let index = it.index().expect("an index");
+    assert!(index.find(&[3]).expect("a look-up").is_none());
+    assert_eq!(index.find(&[0, 3]).err(), Some(Error::Malformed));
 }
 
 #[test]

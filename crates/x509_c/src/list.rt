@@ -3,6 +3,7 @@
 ghost use Rattle.std.specs.Prelude.{◌≡◌, [], length};
 ghost use Rattle.x509_base.specs.CivilTime.{unix_seconds};
 ghost use Rattle.x509_c_calls.specs.CrlEntries.{IsEntry};
+ghost use Rattle.x509_c_calls.specs.CrlIndexes.{Indexes, LooksUpByIndex};
 ghost use Rattle.x509_c_calls.specs.FoundEntry.{LooksUpEntry};
 ghost use Rattle.x509_c_calls.specs.Issued.{StepsIssued};
 ghost use Rattle.x509_c_calls.specs.Revoked.{LooksUp};
@@ -18,8 +19,8 @@ ghost use Rattle.x509_ext.specs.LookUp.{Finds, members, with_oid};
 use std::alloc::Global;
 use x509_base::{GeneralizedTime, Rfc5280, SerialNumber};
 use x509_c_calls::{
-    CrlEntryView, CrlView, Revocation, Span, crl_entry_find, crl_issued_next, crl_lookup, crl_view,
-    crl_walk, generalized_time, member_next,
+    CrlEntryView, CrlView, Revocation, Span, crl_entry_find, crl_index, crl_index_find,
+    crl_issued_next, crl_lookup, crl_view, crl_walk, generalized_time, member_next,
 };
 use x509_cert::crl::{CertificateList, RevokedCert};
 use x509_der::{AssociatedOid, Decode, Grammar, Tag};
@@ -102,6 +103,30 @@ pub extern "C" fn x509_crl_entry_find(
         ⟦<RevokedCert<Rfc5280> as Grammar>⟧.refuses input.now serial_number.now found.old found.new status) result }
 {
     crl_entry_find(alloc, input, serial_number, found).code()
+}
+
+/// Checks a list of entries under the rules of RFC 5280, and puts its index at the front of the buffer. It takes no memory.
+#[unsafe(no_mangle)]
+pub extern "C" fn x509_crl_index(input: &[u8], index: &mut [u32], written: &mut usize) -> i32
+    ensures { Tells (λ status. Indexes ⟦<RevokedCert<Rfc5280> as Grammar>⟧.refuses input.now index.old index.new written.old written.new status
+        × (status ≡ Refused Memory → ⊥)) result }
+{
+    crl_index(input, index, written).code()
+}
+
+/// Fills in the first entry of a list of entries with a serial number, by the index of the list. Neither is checked.
+#[unsafe(no_mangle)]
+pub extern "C" fn x509_crl_index_find(
+    alloc: Global,
+    input: &[u8],
+    index: &[u32],
+    serial_number: &[u8],
+    found: &mut CrlEntryView,
+) -> i32
+    ensures { Tells (λ status. LooksUpByIndex ⟦<SerialNumber<Rfc5280> as Grammar>⟧.form ⟦<SerialNumber<Rfc5280> as Grammar>⟧.refuses
+        ⟦<RevokedCert<Rfc5280> as Grammar>⟧.refuses input.now index.now serial_number.now found.old found.new status) result }
+{
+    crl_index_find(alloc, input, index, serial_number, found).code()
 }
 
 /// Reads an invalidity date, and fills in its seconds since 1970-01-01T00:00:00Z.

@@ -27,6 +27,7 @@ pub mod EntryCounts
 pub mod Cuts
 pub mod Walks
 pub mod FoundEntries
+pub mod CrlIndexes
 pub mod IssuedEntries
 pub mod PayloadMembers
 pub mod Octets

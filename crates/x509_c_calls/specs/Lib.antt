@@ -40,6 +40,7 @@ pub mod Revoked
 pub mod CrlView
 pub mod CrlEntries
 pub mod FoundEntry
+pub mod CrlIndexes
 pub mod Issued
 pub mod Pieces
 pub mod Paths

@@ -50,6 +50,8 @@ pub use crl::CrlEntryView;
 pub use crl::CrlView;
 pub use crl::Revocation;
 pub use crl::crl_entry_find;
+pub use crl::crl_index;
+pub use crl::crl_index_find;
 pub use crl::crl_issued_next;
 pub use crl::crl_lookup;
 pub use crl::crl_view;

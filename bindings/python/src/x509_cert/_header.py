@@ -777,6 +777,8 @@ CALLS: dict[str, list[Any]] = {
     "x509_crl_entry_next": [c_int, c_char_p, c_size_t, POINTER(c_size_t), POINTER(CrlEntryView)],
     "x509_crl_issued_next": [c_int, c_char_p, c_size_t, POINTER(c_size_t), POINTER(Span), POINTER(CrlEntryView)],
     "x509_crl_entry_find": [c_int, c_char_p, c_size_t, c_char_p, c_size_t, POINTER(CrlEntryView)],
+    "x509_crl_index": [c_int, c_char_p, c_size_t, POINTER(c_uint32), c_size_t, POINTER(c_size_t)],
+    "x509_crl_index_find": [c_int, c_char_p, c_size_t, POINTER(c_uint32), c_size_t, c_char_p, c_size_t, POINTER(CrlEntryView)],
     "x509_may_sign_crls": [c_int, c_char_p, c_size_t, POINTER(c_uint32)],
     "x509_revocation_status": [
         c_int,

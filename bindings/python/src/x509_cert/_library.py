@@ -183,6 +183,13 @@ def fill(name: str, *arguments: Any) -> bytes:
     return ctypes.string_at(buffer, written.value)
 
 
+def indexed(name: str, data: bytes, count: int) -> ctypes.Array[ctypes.c_uint32]:
+    """What a call writes into a buffer of so many numbers: it has to be so many."""
+    index, written = (ctypes.c_uint32 * count)(), ctypes.c_size_t()
+    call(name, data, index, ctypes.c_size_t(count), ctypes.byref(written))
+    return index
+
+
 def walk(name: str, kind: type[View], *arguments: Any) -> Iterator[View]:
     """The members of a list, by the call that fills in the next one."""
     at = ctypes.c_size_t()

@@ -13,7 +13,7 @@ from ._cryptography import AnyPublicKey
 from ._extension import ExtensionType
 from ._given import der_of, instance, octets, whole, whole_seconds
 from ._header import CrlEntryView, CrlView, SignatureView, Span
-from ._library import fill, find, view, walk
+from ._library import fill, find, indexed, view, walk
 from ._numbers import moment, serial_element, whole_number
 from ._pem import blocks, refuse_pem
 from ._signed import Signed
@@ -127,6 +127,7 @@ class CertificateRevocationList(Signed):
         self._view = view("x509_crl_view", CrlView, self._data)
         self._entries = self._view.entries.of(self._data)
         self._len = sum(1 for _ in self._walk())
+        self._index: ctypes.Array[ctypes.c_uint32] | None = None
 
     def _walk(self) -> Iterator[CrlEntryView]:
         return walk("x509_crl_entry_next", CrlEntryView, self._entries) if self._entries else iter(())
@@ -180,12 +181,16 @@ class CertificateRevocationList(Signed):
         return fill("x509_crl_json", self._data).decode("utf-8")
 
     def get_revoked_certificate_by_serial_number(self, serial_number: int) -> RevokedCertificate | None:
-        """The first entry with the serial number. Its issuer isn't compared (RFC 5280 5.3.3)."""
+        """The first entry with the serial number. Its issuer isn't compared (RFC 5280 5.3.3). The first look-up makes an index, which is kept."""
         try:
             element = serial_element(serial_number)
         except ValueError:
             return None
-        found = find("x509_crl_entry_find", CrlEntryView, self._entries, element) if self._entries else None
+        if not self._entries:
+            return None
+        if self._index is None:
+            self._index = indexed("x509_crl_index", self._entries, self._len)
+        found = find("x509_crl_index_find", CrlEntryView, self._entries, self._index, ctypes.c_size_t(len(self._index)), element)
         return None if found is None else _entry(found, self._entries)
 
     def issued_entries(self) -> Iterator[tuple[RevokedCertificate, CertificateIssuer | None]]:

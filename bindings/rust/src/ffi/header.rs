@@ -1008,6 +1008,22 @@ extern "C" {
         serial_number_len: usize,
         found: *mut CrlEntry,
     ) -> c_int;
+    pub(super) fn x509_crl_index(
+        value: *const u8,
+        len: usize,
+        index: *mut u32,
+        room: usize,
+        written: *mut usize,
+    ) -> c_int;
+    pub(super) fn x509_crl_index_find(
+        value: *const u8,
+        len: usize,
+        index: *const u32,
+        count: usize,
+        serial_number: *const u8,
+        serial_number_len: usize,
+        found: *mut CrlEntry,
+    ) -> c_int;
     pub(super) fn x509_may_sign_crls(
         certificate: *const u8,
         certificate_len: usize,
