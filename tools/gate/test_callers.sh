@@ -189,7 +189,11 @@ if has python3 \
     python3 -B "$gate/list_promises.py" --check || failed=1
     python3 -B "$gate/list_definitions.py" --check || failed=1
     python3 -B "$top/tools/build/make_bindings.py" --check || failed=1
+    python3 -B "$top/tools/build/derive.py" --check || failed=1
+    python3 -B "$gate/test_derive.py" || failed=1
     python3 -B "$gate/wrong_bodies.py" --check || failed=1
+    python3 -B "$gate/test_wrong_bodies.py" || failed=1
+    ! has rt "wrong bodies that are tried together, by the prover" || python3 -B "$gate/test_wrong_bodies.py" --real || failed=1
     python3 -B "$gate/check_version.py" || failed=1
     python3 -B "$gate/test_first_command.py" real || failed=1
     python3 -B "$robustness/hostile_payloads.py" "$folder/hostile"

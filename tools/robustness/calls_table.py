@@ -61,6 +61,14 @@ def row(call, number, known, numbers):
         elif it.is_const and it.kind == "x509_bad_link" and behind is not None and behind.name == f"{it.name}_count":
             rest.pop(0)
             words += ["a->bad", "a->bad_count"]
+        elif it.is_const and it.kind == "uint32_t" and behind is not None and behind.name == "count":
+            rest.pop(0)
+            words += ["a->by", "a->by_count"]
+            flags.add("IS_BY_INDEX")
+        elif it.is_pointer and it.kind == "uint32_t" and [other.name for other in rest[:2]] == ["room", "written"]:
+            rest = rest[2:]
+            words += ["a->index", "a->room", "a->written"]
+            flags.add("INDEXES")
         elif it.is_pointer and not it.is_const and it.kind == "size_t" and behind is not None and behind.name == "room":
             rest.pop(0)
             words += ["a->places", "a->room"]

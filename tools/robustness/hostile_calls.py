@@ -51,6 +51,15 @@ class Library:
             return status, struct.unpack_from(form, out)
         return status, KEPT if out.raw == before else CHANGED
 
+    def index(self, data, room):
+        """The index of a list of entries."""
+        before = [77] * room
+        written, out = ctypes.c_size_t(77), (ctypes.c_uint32 * room)(*before)
+        status = self.call("x509_crl_index", *lent(data), out, ctypes.c_size_t(room), ctypes.byref(written))
+        if status == OK:
+            return status, out[: written.value]
+        return status, KEPT if out[:] == before and written.value == 77 else CHANGED
+
     def path(self, anchor, data, lens, moment):
         before = b"M" * 16
         out = ctypes.create_string_buffer(before, 16)

@@ -65,6 +65,7 @@ WHOLE += [(name, looks(name, "I"), OVERLENGTH, MALFORMED) for name in ("x509_cer
 WHOLE += [
     ("x509_certificate_extension", lambda library, data: find_extension(library, data, ONE[2:]), OVERLENGTH, MALFORMED),
     ("x509_crl_lookup", looks("x509_crl_lookup", "I", integer(1)), OVERLENGTH, MALFORMED),
+    ("x509_crl_index", writes("x509_crl_index", lambda data: 0), OVERLENGTH, MALFORMED),
     ("x509_crl_lookup, the number", lambda library, data: library.look("x509_crl_lookup", "I", crl(), data), OVERLENGTH, MALFORMED),
     ("x509_certificate_extension, the identifier", lambda library, data: find_extension(library, certificate(), data), ABSENT, ABSENT),
     ("x509_revocation_status", lambda library, data: library.revocation(data, crl(), SIGNER, SECONDS), OVERLENGTH, MALFORMED),
@@ -222,6 +223,15 @@ def certificate_calls():
     yield "x509_signed_slice", make, lambda name: looks(name, "2Q"), lambda size, data: (OK, signed(header_len(len(data)), len(data)))
 
 
+def index(size):
+    """Where each of the entries of a list stands in its content, by the octets of their numbers: entries that rise, and one behind with the number 0."""
+    places, at = [], 0
+    for member, number in [*sorted((entry(number), number) for number in range(1, size + 1)), (entry(0), 0)]:
+        places.append((number.to_bytes(number.bit_length() // 8 + 1, "big"), at))
+        at += len(member)
+    return [at for _, at in sorted(places)]
+
+
 def other_calls():
     """The same of lists of many entries or with an entry of many extensions, and of requests with many attributes."""
     entries = lambda size: crl(rising(entry, size) + [entry(0)])
@@ -240,6 +250,7 @@ def other_calls():
     seek = lambda number: looks("x509_crl_entry_find", "5Q", integer(number))
     yield "x509_crl_entry_find", listed, lambda name: seek(0), last
     yield "x509_crl_entry_find, absent", listed, lambda name: seek(1 << 40), refused(ABSENT)
+    yield "x509_crl_index", listed, lambda name: lambda library, data: library.index(data, len(data) // len(entry(0))), lambda size, data: (OK, index(size))
     others = lambda size: rising(lambda number: entry(number + 1), size)
     named = lambda size: crl(issuer=sequence(*rising(relative_name, size)))
     asks = lambda name: ask_status

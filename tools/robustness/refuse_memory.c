@@ -73,7 +73,7 @@ static void wrong(const char *what, long number)
 
 /* ---- each call */
 
-enum { CALLS = 101 };
+enum { CALLS = 103 };
 
 static uint8_t certificate[65536], list[65536], request[65536], room[65536], signed_list[3 * 65536], searched[65536 + 10];
 static size_t certificate_len, list_len, request_len;
@@ -172,6 +172,10 @@ static const x509_revocation_settings IN_FEBRUARY = {1769904000, 0};
 /* the CertificatePolicies of 1.2.3 */
 #define POLICIES "\x30\x06\x30\x04\x06\x02\x2a\x03"
 #define CONSTRAINTS "\x30\x08\xa0\x06\x30\x04\xa4\x02\x30\x00"
+
+/* a list of one entry, and its index */
+#define LISTED "\x30\x29\x30\x27\x02\x08\x12\x34\x56\x78\x90\xab\xcd\xef\x17\x0d" "260120100000Z" "\x30\x0c\x30\x0a\x06\x03\x55\x1d\x15\x04\x03\x0a\x01\x01"
+static uint32_t index_of_one[1];
 
 static x509_status call(int number)
 {
@@ -362,9 +366,7 @@ static x509_status call(int number)
     case 77:
         return x509_path_controls_view(BYTES("\x30\x2b\x30\x29\x31\x27\x30\x25\x06\x03\x55\x04\x03\x0c\x1e" THIRTY), &filled.controls);
     case 78:
-        return x509_crl_entry_find(BYTES("\x30\x29\x30\x27\x02\x08\x12\x34\x56\x78\x90\xab\xcd\xef\x17\x0d"
-                                         "260120100000Z\x30\x0c\x30\x0a\x06\x03\x55\x1d\x15\x04\x03\x0a\x01\x01"),
-                                   BYTES("\x02\x08\x12\x34\x56\x78\x90\xab\xcd\xef"), &filled.entry);
+        return x509_crl_entry_find(BYTES(LISTED), BYTES("\x02\x08\x12\x34\x56\x78\x90\xab\xcd\xef"), &filled.entry);
     case 79:
         return x509_string_text(BYTES("\x1c\x04\x00\x00\x00" "a"), room, sizeof room, &filled.count);
     case 80:
@@ -413,6 +415,10 @@ static x509_status call(int number)
     case 99:
         return x509_path_find(searched, certificate_len + 10, &whole, 1, &whole, 1, &whole, &bad, 1, NULL, 0, BYTES(POLICIES), &FIRST_SECOND, sizeof FIRST_SECOND,
                               8, NULL, 0, &filled.path);
+    case 100:
+        return x509_crl_index_find(BYTES(LISTED), index_of_one, 1, BYTES("\x02\x08\x12\x34\x56\x78\x90\xab\xcd\xef"), &filled.entry);
+    case 101:
+        return x509_crl_index(BYTES(LISTED), index_of_one, 1, &filled.count);
     default:
         /* in the first second of the validity */
         return x509_path_check(certificate, certificate_len, certificate, certificate_len, &certificate_len, 1, 1767323045, &filled.fault);
@@ -440,7 +446,8 @@ static int holds(int number, long from, long to)
 /* whether the call takes no memory: it answers what it is for, whatever is refused */
 static int takes_none(int number)
 {
-    return number == 0 || (number >= 2 && number <= 6) || number == 10 || number == 11 || number == 19 || number == 21 || number == 73 || number == 81;
+    return number == 0 || (number >= 2 && number <= 6) || number == 10 || number == 11 || number == 19 || number == 21 || number == 73 || number == 81
+           || number == 101;
 }
 
 static void refuse_call(int number)

@@ -24,7 +24,7 @@
 #include "x509.h"
 
 enum { MOST_INPUTS = 10, MOST_NUMBERS = 8, MOST_LENS = 4, MOST_SPANS = 5, MOST_FIELDS = 32, MOST_THREADS = 64 };
-enum { HAS_LENS = 1, WRITES = 2, WALKS = 4, WRITES_ASIDE = 8, CARRIES = 16, HAS_CRLS = 32, FINDS = 64 };
+enum { HAS_LENS = 1, WRITES = 2, WALKS = 4, WRITES_ASIDE = 8, CARRIES = 16, HAS_CRLS = 32, FINDS = 64, INDEXES = 128, IS_BY_INDEX = 256 };
 
 /* statuses are from -2 to 9 */
 #define ANSWERS(status) (1u << ((status) + 2))
@@ -44,6 +44,9 @@ typedef struct {
     size_t span_counts[2], bad_count;
     const x509_bad_link *bad;
     size_t *places;
+    uint32_t *index;
+    const uint32_t *by; /* an index */
+    size_t by_count;
     uint8_t *out;
     size_t room, *written, *at;
     x509_span *issuer;
@@ -199,6 +202,8 @@ static const source SOURCES[] = {
     {"x509_crl_lookup", "serial_number", "found:x509_crl_entry_next"},
     {"x509_crl_entry_find", "value", "x509_crl_entry_next"},
     {"x509_crl_entry_find", "serial_number", "found:x509_crl_entry_next"},
+    {"x509_crl_index_find", "value", "x509_crl_index"},
+    {"x509_crl_index_find", "serial_number", "found:x509_crl_entry_next"},
     {"x509_request_attribute_find", "in", "x509_request_check"},
     {"x509_request_attribute_find", "oid", "found:x509_request_attribute_next"},
     {"x509_name_find", "oid", "found:x509_relative_name_next"},
@@ -381,6 +386,79 @@ static x509_status ask_room(asker *by, arguments *with, int is_front)
     return X509_OK;
 }
 
+/* Whether numbers of a buffer are those that it was filled with. */
+static int is_unchanged(const uint32_t *numbers, size_t count)
+{
+    for (size_t at = 0; at < count; at++)
+        if (numbers[at] != 0xa5a5a5a5)
+            return 0;
+    return 1;
+}
+
+/* A call that makes an index: how many places it has, a buffer for so many, and one for one less, which stays as it is. */
+static x509_status ask_index(asker *by, arguments *with)
+{
+    size_t written = 77;
+    with->written = &written;
+    with->index = NULL;
+    with->room = 0;
+    const x509_status status = ask(by, with);
+    const size_t needed = written;
+    if (status != X509_ROOM && !(status == X509_OK && needed == 0)) {
+        if (status == X509_OK || written != 77)
+            wrong(by, "written has changed, or places without a buffer", with, status);
+        return status;
+    }
+    if (needed > with->in[0].len)
+        wrong(by, "more places than bytes", with, status);
+    for (size_t less = 0; less <= (needed > 0); less++) {
+        with->room = needed - less;
+        with->index = (uint32_t *)(void *)place(by->out, with->room * sizeof *with->index, 0);
+        memset(with->index, 0xa5, with->room * sizeof *with->index);
+        written = 77;
+        if (ask(by, with) != (less ? X509_ROOM : X509_OK) || written != needed)
+            wrong(by, "another answer with such a room", with, status);
+        if (less && !is_unchanged(with->index, with->room))
+            wrong(by, "a buffer that is too small has changed", with, status);
+        for (size_t at = 0; !less && at < needed; at++)
+            if (with->index[at] >= with->in[0].len)
+                wrong(by, "a place outside of the input", with, status);
+        by->digest = digest_of(by->digest, with->index, with->room * sizeof *with->index);
+    }
+    return X509_OK;
+}
+
+/* A look-up by an index, mostly that of the list, by which is found what is found without; else by any numbers. */
+static x509_status ask_by_index(asker *by, arguments *with)
+{
+    uint32_t index[64];
+    size_t count = 0;
+    const octets list = with->in[0], number = with->in[1];
+    const int is_own = x509_crl_index(list.bytes, list.len, index, 64, &count) == X509_OK && below(&by->state, 4) != 0;
+    if (!is_own) {
+        count = (size_t)below(&by->state, 5);
+        for (size_t at = 0; at < count; at++)
+            index[at] = below(&by->state, 8) == 0 ? UINT32_MAX - (uint32_t)below(&by->state, 4) : (uint32_t)below(&by->state, list.len + 3);
+    }
+    /* behind what can't be touched, as the other inputs */
+    uint32_t *given = (uint32_t *)(void *)place(by->given, count * sizeof *given, 0);
+    memcpy(given, index, count * sizeof *given);
+    with->by = count == 0 && below(&by->state, 2) == 0 ? NULL : given;
+    with->by_count = count;
+    const x509_status status = ask(by, with);
+    if (memcmp(given, index, count * sizeof *given) != 0)
+        wrong(by, "an index has changed", with, status);
+    x509_crl_entry other;
+    memset(&other, 0xa5, sizeof other);
+    if (is_own && (x509_crl_entry_find(list.bytes, list.len, number.bytes, number.len, &other) != status || memcmp(&other, with->found, sizeof other) != 0))
+        wrong(by, "another answer than without an index", with, status);
+    x509_span span;
+    memcpy(&span, with->found, sizeof span);
+    if (status == X509_OK && (span.len != number.len || memcmp(list.bytes + span.place, number.bytes, span.len) != 0))
+        wrong(by, "an entry with another number", with, status);
+    return status;
+}
+
 /* A walk from the front to where it stops, and one step from anywhere. */
 static x509_status ask_walk(asker *by, arguments *with)
 {
@@ -458,6 +536,10 @@ static x509_status ask_any(asker *by, arguments *with, int is_front)
     }
     if (by->now->flags & FINDS)
         return ask_path(by, with);
+    if (by->now->flags & INDEXES)
+        return ask_index(by, with);
+    if (by->now->flags & IS_BY_INDEX)
+        return ask_by_index(by, with);
     const x509_status status = ask(by, with);
     if (status == X509_OK && (by->now->flags & HAS_CRLS) && by->now->number_count == 1) {
         uint32_t fault;
@@ -821,12 +903,14 @@ static pool *found_by(const char *call)
 static int keep_found(const call *of, const base *it, size_t enough)
 {
     static uint8_t found[4096], out[MOST_BYTES];
+    static uint32_t index[sizeof out];
     size_t at = 0, written = 0;
     arguments with = {0};
     with.in[0] = (octets){it->bytes, it->len};
     with.number[0] = it->len > 0 ? it->bytes[0] & 0x1f : 0;
     with.out = out;
     with.room = sizeof out;
+    with.index = index;
     with.written = &written;
     with.at = &at;
     with.found = found;
