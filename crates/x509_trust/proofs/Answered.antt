@@ -1,5 +1,7 @@
 -- What is answered of paths, once the statuses of certificates are asked.
-use Rattle.std.proofs.Common.{◌≡◌, inl, inr, ℕ, List, Option, Some, None, Result, Ok, Err, refl, sym, subst}
+use Rattle.std.proofs.Common.{◌≡◌, ℕ, List, [], ◌∷◌, ◌++◌, Option, Some, None, Result, Ok, Err, refl, sym, subst, arith}
+use Rattle.std.proofs.lemmas.List.Elements.{Contains-append_left, Contains-append_right}
+use Rattle.std.specs.List.{Contains}
 use Rattle.x509_path.specs.Certificates.{Accepting}
 use Rattle.x509_path.specs.Lent.{Lends}
 use Rattle.x509_revocation.specs.Says.{GivenCrl, Question}
@@ -27,9 +29,14 @@ pub of_error : (accepts : Accepting) (wanted : Wanted) (check : RevocationCheck)
     → AnswersPath accepts wanted (Some check) given (Err error)
 of_error accepts wanted check given OtherName is = is
 of_error accepts wanted check given (Path error) is = is
-of_error accepts wanted check given (Revocation refused) (none, among, barred) = (
+of_error accepts wanted check given (Revocation refused) (none, (trusted, above, leads, there), barred) = (
   (λ trusted above usable. none trusted above usable.leads usable.passes.0),
-  record { asked = check; is = refl; known = inr among; barred = barred },
+  record {
+    asked = check;
+    is = refl;
+    stands = (trusted, above, leads, Contains-append_left above (wanted.leaf ∷ []) refused.certificate.now there);
+    barred = barred;
+  },
 )
 of_error accepts wanted check given TooManyRefused is = (check, refl, is)
 
@@ -42,15 +49,27 @@ of_found accepts wanted check given found is pass = record {
   shortest = λ trusted above usable. is.shortest trusted above usable.leads usable.passes.0;
 }
 
-pub of_barred : (accepts : Accepting) (wanted : Wanted) (check : RevocationCheck) (given : List GivenCrl) (refused : RefusedCertificate)
+pub of_barred : (accepts : Accepting) (wanted : Wanted) (check : RevocationCheck) (given : List GivenCrl) (found : Found) (refused : RefusedCertificate)
+    → AnswersAbove accepts wanted check given check.max_refused (Ok found)
     → ((question : Question) (given : List GivenCrl) (s t : RevocationStatus) → statuses.Answers question given s → statuses.Answers question given t → s ≡ t)
     → wanted.leaf ≡ refused.certificate.now → IsBarred accepts check given refused.certificate.now refused.status
     → NoneIsUsable accepts wanted (Some check) given × IsTold accepts wanted (Some check) given refused
-of_barred accepts wanted check given refused one_status is barred = (
+of_barred accepts wanted check given found refused answers one_status is barred = (
   (λ trusted above usable.
       let (status, has, free) = usable.passes.1 barred.certificate (subst (λ b. Lends b barred.certificate) (sym is) barred.lends) in
       free (subst (λ s. Bars check s) (one_status _ given refused.status status barred.has has) barred.bars)),
-  record { asked = check; is = refl; known = inl (sym is); barred = barred },
+  record {
+    asked = check;
+    is = refl;
+    stands = (
+      found.trusted,
+      answers.found.above,
+      answers.found.leads,
+      subst (λ b. Contains (answers.found.above ++ wanted.leaf ∷ []) b) is
+          (Contains-append_right answers.found.above (wanted.leaf ∷ []) wanted.leaf (0, omega arith, refl)),
+    );
+    barred = barred;
+  },
 )
 
 -- with the name

@@ -9,7 +9,7 @@ use Rattle.x509_revocation.specs.Status as statuses
 use Rattle.x509_revocation.specs.declared.status.RevocationStatus.{RevocationStatus}
 use Rattle.x509_trust.specs.Limits.{IsWithout, KeepsWithout, OfPaths}
 use Rattle.x509_trust.specs.Peers.{AreBarred, Bars, HasBarred, IsBarred, Passes, asked_above}
-use Rattle.x509_trust.specs.Searched.{AbovePass, AnswersAbove, NonePasses, told_behind}
+use Rattle.x509_trust.specs.Searched.{AbovePass, AnswersAbove, NonePasses, StandsAbove, told_behind}
 use Rattle.x509_trust.specs.declared.error.RefusedCertificate.{RefusedCertificate}
 use Rattle.x509_trust.specs.declared.error.VerifyError.TheVariants.{OtherName, Path, Revocation, TooManyRefused}
 use Rattle.x509_trust.specs.declared.error.VerifyError.{VerifyError}
@@ -42,6 +42,7 @@ each both xs ps qs = λ k d less. both (get_or xs k d) (ps k d less) (qs k d les
 
 module _ (accepts : Accepting) (wanted : Wanted) (rest : List (List ℕ)) (check : RevocationCheck) (given : List GivenCrl) (refused : RefusedCertificate)
     (barred : IsBarred accepts check given refused.certificate.now refused.status)
+    (stands : StandsAbove accepts wanted refused.certificate.now)
     (among : Contains wanted.candidates refused.certificate.now)
     (fewer : (one : List ℕ) → Contains rest one ↔ (Contains wanted.candidates one × (one ≢ refused.certificate.now)))
     (all : (xs : List (List ℕ)) → asked_above check.scope xs ≡ xs)
@@ -78,7 +79,7 @@ module _ (accepts : Accepting) (wanted : Wanted) (rest : List (List ℕ)) (check
   none without trusted above leads pass = without trusted above (narrows trusted above leads pass) pass
 
   told : NonePasses accepts (over wanted rest) check given → (l : ℕ) → AnswersAbove accepts wanted check given l (Err (Revocation refused))
-  told without l = (none without, among, barred)
+  told without l = (none without, stands, barred)
 
   none_leads : NoneLeads accepts (over wanted rest) → NonePasses accepts (over wanted rest) check given
   none_leads without trusted above leads pass = without trusted above leads

@@ -1,6 +1,6 @@
 -- What a certificate is asked for beside a valid path: that it names the peer (RFC 9525; of e-mail RFC 5280 4.2.1.6), and that CRLs let it and those of
 -- its path through (RFC 5280 6.3.3).
-use Rattle.std.specs.Prelude.{◌≡◌, ◌≤◌, ◌+◌, ◌⊎◌, ℕ, suc, List, [], false, length, Contains, Option, Some, None, Result, Ok, Err}
+use Rattle.std.specs.Prelude.{◌≡◌, ◌≤◌, ◌+◌, ℕ, suc, List, [], ◌∷◌, ◌++◌, false, length, Contains, Option, Some, None, Result, Ok, Err}
 use Rattle.std.specs.List.{All}
 use Rattle.x509_path.specs.Certificates.{Accepting, Certificate, extensions_of}
 use Rattle.x509_path.specs.Lent.{Lends}
@@ -91,11 +91,15 @@ pub record FindsUsable (accepts : Accepting) (wanted : Wanted) (check : Option R
 abbrev pub NoneIsUsable : Accepting → Wanted → Option RevocationCheck → List GivenCrl → Type 0
 NoneIsUsable accepts wanted check given = (trusted : Trusted) (above : List (List ℕ)) → IsUsable accepts wanted check given trusted above → ⊥
 
--- the certificate that is told is the one that was asked for, or a candidate, and isn't let through
+-- a path that is valid, whatever the statuses are, has that certificate: the one that was asked for, or a candidate above it
+abbrev pub StandsIn : Accepting → Wanted → List ℕ → Type 0
+StandsIn accepts wanted bytes = (trusted : Trusted) × (above : List (List ℕ)) × LeadsTo accepts wanted trusted above × Contains (above ++ wanted.leaf ∷ []) bytes
+
+-- the certificate that is told stands in a path that is valid else, and isn't let through
 pub record IsTold (accepts : Accepting) (wanted : Wanted) (check : Option RevocationCheck) (given : List GivenCrl) (refused : RefusedCertificate) : Type 0 where
   pub asked : RevocationCheck
   pub is : check ≡ Some asked
-  pub known : (refused.certificate.now ≡ wanted.leaf) ⊎ Contains wanted.candidates refused.certificate.now
+  pub stands : StandsIn accepts wanted refused.certificate.now
   pub barred : IsBarred accepts asked given refused.certificate.now refused.status
 
 -- so many candidates or more aren't let through

@@ -32,12 +32,16 @@ pub record FindsPassing (accepts : Accepting) (wanted : Wanted) (check : Revocat
 abbrev pub NonePasses : Accepting → Wanted → RevocationCheck → List GivenCrl → Type 0
 NonePasses accepts wanted check given = (trusted : Trusted) (above : List (List ℕ)) → LeadsTo accepts wanted trusted above → AbovePass accepts check given above → ⊥
 
+-- a valid path has that candidate above the last one
+abbrev pub StandsAbove : Accepting → Wanted → List ℕ → Type 0
+StandsAbove accepts wanted bytes = (trusted : Trusted) × (above : List (List ℕ)) × LeadsTo accepts wanted trusted above × Contains above bytes
+
 abbrev pub AnswersAbove : Accepting → Wanted → RevocationCheck → List GivenCrl → ℕ → Result Found VerifyError → Type 0
 AnswersAbove accepts wanted check given left (Ok found) = FindsPassing accepts wanted check given found
 AnswersAbove accepts wanted check given left (Err OtherName) = ⊥
 AnswersAbove accepts wanted check given left (Err (Path error)) = Answers accepts wanted (Err error)
 AnswersAbove accepts wanted check given left (Err (Revocation refused)) =
-    NonePasses accepts wanted check given × Contains wanted.candidates refused.certificate.now
+    NonePasses accepts wanted check given × StandsAbove accepts wanted refused.certificate.now
     × IsBarred accepts check given refused.certificate.now refused.status
 AnswersAbove accepts wanted check given left (Err TooManyRefused) = AreBarred accepts check given wanted.candidates (suc left)
 

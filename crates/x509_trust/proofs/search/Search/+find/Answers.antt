@@ -111,7 +111,8 @@ returns-clause-answers g t c = λ given lends.
     let more : c.args.left ≡ suc c.in-Some.fewer = omega (arith, c.in-Some.ensures) in
     let without = subst (λ p. IsWithout p bytes c.in-Ok-without.rest) c.pool-pool.ensures c.in-Ok-without.ensures in
     subst (λ n. AnswersAbove accepts wanted check given n c.told_behind.result) (sym more) (subst (λ r. AnswersAbove accepts wanted check given (suc c.in-Some.fewer) r) (sym c.told_behind.ensures)
-    (behind accepts wanted (candidates_of c.in-Ok-without.rest) check given c.in-Ok-Some.refused bars.1 among without all c.one_status.ensures (below.certificate, below.spells)
+    (behind accepts wanted (candidates_of c.in-Ok-without.rest) check given c.in-Ok-Some.refused bars.1
+    (c.in-Ok.found.trusted, found.above, found.leads, subst (λ xs. Contains xs bytes) (all found.above) there) among without all c.one_status.ensures (below.certificate, below.spells)
     c.in-Some.fewer c.find.result (c.find.ensures.answers given lends)))
 
 pub returns-in-Err-clause-answers : goal.returns-in-Err-clause-answers

@@ -29,7 +29,7 @@ returns-in-Ok-Some-clause-answers g c = λ given lends.
     let bars = subst (λ o. MatchOption o (All (Passes accepts check given) (leaf ∷ []))
     (λ refused. Contains (leaf ∷ []) refused.certificate.now × IsBarred accepts check given refused.certificate.now refused.status))
     c.in-Ok-Some.field-0-is (c.in-Ok-Some.ensures given lends) in
-    of_barred accepts _ check given c.in-Ok-Some.refused c.one_status.ensures
+    of_barred accepts _ check given c.in-Ok.found c.in-Ok-Some.refused (c.in-Ok.ensures.answers given lends) c.one_status.ensures
     (elim (first_or_behind leaf [] c.in-Ok-Some.refused.certificate.now bars.0) [ inl is ↦ is | inr (k, less, is) ↦ absurd (omega (arith, less)) ]) bars.1
 
 pub returns-clause-answers : goal.returns-clause-answers
