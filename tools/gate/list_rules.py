@@ -1,12 +1,13 @@
 #!/usr/bin/env python3
 """Makes docs/RULES.md: what RFC 5280 says MUST or SHOULD hold of certificates and CRLs, RFC 2986 and RFC 2985 of CSRs, and RFC 5914 of trust anchors, by
-section, with the rule of x509_lint that tells where it is broken, or why none does.
+section, with the rule of x509_lint that tells where it is broken; of what none tells how many sentences there are, and why.
 
 The sentences and their answers stand in tools/data/rfc5280.txt; the rules, and how bad it is to break each, are taken from the code,
 crates/x509_lint/src/rule. With `--check` it fails where a rule of the code stands in no line of the sentences, where its docs don't say its section,
 where a line names a rule that isn't there, where a sentence has no answer, and where docs/RULES.md is another text.
 """
 import argparse
+import collections
 import pathlib
 import re
 import sys
@@ -29,10 +30,11 @@ REASONS = {
 HEAD = """# What RFC 5280 says, and the rules of `x509_lint`
 
 `tools/gate/list_rules.py` makes this page of `tools/data/rfc5280.txt` and of the rules in `crates/x509_lint/src/rule`. Each line has what a section of RFC
-5280, or of another standard that is named, says MUST or SHOULD hold, in our own words, and the rule that tells where it is broken, or why there is none.
-GRAMMAR stands for a size or a type of the ASN.1. Whether a rule is broken is a definition of `crates/x509_lint/specs`, in the file of its group, and
-`lint_certificate`, `lint_crl`, `lint_request` and `lint_anchor` are proved to find it exactly there; what was seen is said at the rule in the code. Why there
-is none:
+5280, or of another standard that is named, says MUST or SHOULD hold, in our own words, and the rule that tells where it is broken. GRAMMAR stands for a size or
+a type of the ASN.1. To break a rule is an error behind MUST, MUST NOT and GRAMMAR, and a warning behind SHOULD and SHOULD NOT, where no other word stands
+behind it. Whether one is broken is a definition of `crates/x509_lint/specs`, in the file of its group, and `lint_certificate`, `lint_crl`, `lint_request` and
+`lint_anchor` are proved to find it exactly there. Sentences without a rule stand in `tools/data/rfc5280.txt`, each with why there is none; how many there are
+of each kind is in brackets:
 
 """
 
@@ -98,22 +100,37 @@ def sections():
     return found
 
 
+def told_of(name, usual, rules):
+    """A rule, and how bad it is to break it where that isn't what is usual there."""
+    severity = rules[name][0] if name in rules else usual
+    return f"`{name.rpartition(':')[2]}`" + (f" ({severity})" if severity != usual else "")
+
+
 def answer(sentence, rules):
     """What is said behind a sentence: its rules, and why there are none or not all."""
-    told = [f"`{name.rpartition(':')[2]}` ({rules[name][0]})" if name in rules else f"`{name}`" for name in sentence["rules"]]
+    usual = "warning" if sentence["text"].startswith("SHOULD") else "error"
+    told = [told_of(name, usual, rules) for name in sentence["rules"]]
     why = [f"*{kind}*{': ' + more if more else ''}" for kind, more in sentence["reasons"]]
     return "; ".join(filter(None, [", ".join(told), "; ".join(why)]))
 
 
+def is_listed(sentence):
+    """Whether a sentence stands on the page: it has a rule, or one could stand."""
+    return bool(sentence["rules"]) or any(kind == "open" for kind, _ in sentence["reasons"])
+
+
 def page(rules, all_sections):
-    lines = [HEAD, *(f"- *{kind}*: {why}.\n" for kind, why in REASONS.items()), "\n"]
-    count = sum(len(sentences) for _, _, sentences in all_sections)
-    ruled = sum(bool(it["rules"]) for _, _, sentences in all_sections for it in sentences)
-    still = sum(any(kind == "open" for kind, _ in it["reasons"]) for _, _, sentences in all_sections for it in sentences)
-    lines.append(f"{count} sentences, {ruled} of them with a rule, {still} for which one could stand and doesn't yet or not wholly; {len(rules)} rules.\n")
-    for number, title, sentences in all_sections:
-        lines.append(f"\n## {number} {title}\n\n")
-        for it in sentences:
+    sentences = [it for _, _, sentences in all_sections for it in sentences]
+    others = collections.Counter(it["reasons"][0][0] for it in sentences if not is_listed(it) and it["reasons"])
+    ruled = sum(bool(it["rules"]) for it in sentences)
+    still = sum(any(kind == "open" for kind, _ in it["reasons"]) for it in sentences)
+    lines = [HEAD, *(f"- *{kind}*{f' ({others[kind]})' if others[kind] else ''}: {why}.\n" for kind, why in REASONS.items())]
+    told = f"{ruled} of them with a rule, {still} for which one could stand and doesn't yet or not wholly"
+    lines.append(f"\n{len(sentences)} sentences, {told}; {len(rules)} rules.\n")
+    for number, title, of_section in all_sections:
+        listed = [it for it in of_section if is_listed(it)]
+        lines.append(f"\n## {number} {title}\n\n" if listed else "")
+        for it in listed:
             level = next(level for level in LEVELS if it["text"].startswith(level))
             lines.append(f"- **{level}** {it['text'][len(level) + 1:]}. {answer(it, rules)}\n")
     return "".join(lines)

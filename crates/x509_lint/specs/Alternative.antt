@@ -1,20 +1,26 @@
 -- The rules on the alternative names of the subject and the issuer (RFC 5280 4.2.1.6, 4.2.1.7): what breaks each, their order, and how each is told.
-use Rattle.std.specs.Prelude.{Option, ◌&&◌, ◌||◌, ◌==◌, ℕ, Bool, true, false, not, nat_le, List, [], ◌∷◌, length, codes, if◌then◌else◌}
+use Rattle.std.specs.Prelude.{Option, ◌&&◌, ◌||◌, ◌==◌, ℕ, Bool, true, false, not, nat_le, nat_lt, List, [], ◌∷◌, length, bytes_eq, codes, is_some, if◌then◌else◌}
 use Rattle.std.specs.Char.{is_ascii_alphanumeric}
-use Rattle.std.specs.List.{list_any, slice_get}
+use Rattle.std.specs.List.{list_all, list_any, slice_get}
+use Rattle.std.specs.Str.{is_utf8}
+use Rattle.x509_der.specs.declared.any.Any.{Any}
 use Rattle.x509_ext.specs.declared.pkix.name.general_name.GeneralName.{GeneralName}
 use Rattle.x509_ext.specs.declared.pkix.name.general_name.GeneralName.TheVariants.{OtherName, Rfc822Name, DnsName, DirectoryName, EdiPartyName, UniformResourceIdentifier, IpAddress, RegisteredId}
-use Rattle.x509_ext.specs.Identifiers.{id_ce}
+use Rattle.x509_ext.specs.Identifiers.{id_ce, id_pkix}
 use Rattle.x509_ext.specs.declared.extension.Extension.{Extension}
 use Rattle.x509_ext.specs.declared.pkix.alternative_names.SubjectAltName.{SubjectAltName}
 use Rattle.x509_host.specs.Host.{are_ldh_labels, is_preferred_name}
-use Rattle.x509_lint.specs.Text.{has_email}
-use Rattle.x509_lint.specs.Uri.{has_other_host, is_absolute, is_uri}
+use Rattle.x509_lint.specs.Beyond.{is_unjudged}
+use Rattle.x509_lint.specs.declared.beyond.Beyond.TheVariants.{Names}
+use Rattle.x509_lint.specs.Name.{has_empty_rdn, has_no_country}
+use Rattle.x509_lint.specs.Text.{has_email, has_faulty_text, is_ia5_string, is_utf8_string}
+use Rattle.x509_lint.specs.declared.texts.TextFault.TheVariants.{OtherType, OtherCharacter, Size, Label}
+use Rattle.x509_lint.specs.Uri.{before, behind, contains, has_other_host, is_absolute, is_uri}
 use Rattle.x509_lint.specs.Words.{Certificate, extensions_of, has, is_empty, passes}
 use Rattle.x509_lint.specs.declared.values.AlternativeValues.{AlternativeValues}
 use Rattle.x509_lint.specs.declared.rule.alternative.AlternativeRule.{AlternativeRule}
 use Rattle.x509_lint.specs.declared.rule.alternative.AlternativeRule.TheVariants as rules
-use Rattle.x509_lint.specs.Sentence.{Sentence, must}
+use Rattle.x509_lint.specs.Sentence.{Sentence, must, not_judged, must_of}
 
 -- ---- general names (RFC 5280 4.2.1.6)
 
@@ -117,6 +123,52 @@ abbrev pub is_at_other_host : GeneralName → Bool
 is_at_other_host (UniformResourceIdentifier text) = is_absolute text && has_other_host text
 is_at_other_host other = false
 
+-- ---- distinguished names (RFC 5280 4.2.1.6), whose encoding is that of an issuer (4.1.2.4, A.1)
+
+abbrev pub is_odd_directory_name : GeneralName → Bool
+is_odd_directory_name (DirectoryName rdns) =
+    has_empty_rdn rdns || (has_no_country rdns || (has_faulty_text OtherType rdns || (has_faulty_text OtherCharacter rdns || (has_faulty_text Size rdns || has_faulty_text Label rdns))))
+is_odd_directory_name other = false
+
+-- ---- names of services (RFC 4985 2)
+
+-- id-on-dnsSRV
+abbrev pub srv_name : List ℕ
+srv_name = id_pkix 8 7
+
+-- an underscore, a service, a dot, and a domain name, as a dNSName may be
+abbrev pub is_service_of_domain : List ℕ → Bool
+is_service_of_domain [] = false
+is_service_of_domain (first ∷ octets) = (first == 95) && (not (is_empty (before 46 octets)) && is_preferred_name (behind 46 octets))
+
+-- SRVName, an IA5String
+abbrev pub is_srv_name : Any → Bool
+is_srv_name value = is_ia5_string value.tag && (list_all (λ octet. nat_lt octet 128) value.value && is_service_of_domain value.value)
+
+abbrev pub is_no_srv_name : GeneralName → Bool
+is_no_srv_name (OtherName name) = bytes_eq name.type_id srv_name && not (is_srv_name name.value)
+is_no_srv_name other = false
+
+-- ---- mailboxes that rfc822Names can't be (RFC 9598 3)
+
+-- id-on-SmtpUTF8Mailbox
+abbrev pub smtp_mailbox : List ℕ
+smtp_mailbox = id_pkix 8 9
+
+-- a quoted string, which isn't looked at, and the sign @ behind some of it; or a local part with a character above U+007F, the sign @ and a domain without such
+abbrev pub is_wide_mailbox : List ℕ → Bool
+is_wide_mailbox text =
+    if begins_with 34 text then contains 64 text
+    else list_any (λ octet. nat_le 128 octet) (before 64 text) && is_domain (behind 64 text)
+
+-- SmtpUTF8Mailbox, a UTF8String
+abbrev pub is_smtp_mailbox : Any → Bool
+is_smtp_mailbox value = is_utf8_string value.tag && (is_utf8 value.value && is_wide_mailbox value.value)
+
+abbrev pub is_no_smtp_mailbox : GeneralName → Bool
+is_no_smtp_mailbox (OtherName name) = bytes_eq name.type_id smtp_mailbox && not (is_smtp_mailbox name.value)
+is_no_smtp_mailbox other = false
+
 -- ---- the rules, in their order
 
 abbrev pub alternative_rules : List AlternativeRule
@@ -130,6 +182,10 @@ alternative_rules =
     ∷ rules.SubjectAltNameUriRelative
     ∷ rules.SubjectAltNameUriInvalid
     ∷ rules.SubjectAltNameUriHostInvalid
+    ∷ rules.SubjectAltNameDirectoryNameInvalid
+    ∷ rules.SubjectAltNameSrvNameInvalid
+    ∷ rules.SubjectAltNameSmtpUtf8MailboxInvalid
+    ∷ rules.SubjectAltNameNotJudged
     ∷ rules.IssuerAltNameEmpty
     ∷ rules.IssuerAltNameEmptyName
     ∷ rules.IssuerAltNameDnsNameInvalid
@@ -137,7 +193,11 @@ alternative_rules =
     ∷ rules.IssuerAltNameMailboxInvalid
     ∷ rules.IssuerAltNameUriRelative
     ∷ rules.IssuerAltNameUriInvalid
-    ∷ rules.IssuerAltNameUriHostInvalid ∷ []
+    ∷ rules.IssuerAltNameUriHostInvalid
+    ∷ rules.IssuerAltNameDirectoryNameInvalid
+    ∷ rules.IssuerAltNameSrvNameInvalid
+    ∷ rules.IssuerAltNameSmtpUtf8MailboxInvalid
+    ∷ rules.IssuerAltNameNotJudged ∷ []
 
 abbrev pub alternative_sentence : AlternativeRule → Sentence Certificate AlternativeValues
 alternative_sentence rules.SubjectEmailNotInAltName =
@@ -167,6 +227,18 @@ alternative_sentence rules.SubjectAltNameUriInvalid =
 alternative_sentence rules.SubjectAltNameUriHostInvalid =
     must (codes "subject_alt_name_uri_host_invalid") (codes "4.2.1.6") (codes "tbsCertificate.extensions.subjectAltName")
     (λ c v. passes (λ s. list_any is_at_other_host s.0) v.subject_alt_name)
+alternative_sentence rules.SubjectAltNameDirectoryNameInvalid =
+    must (codes "subject_alt_name_directory_name_invalid") (codes "4.2.1.6") (codes "tbsCertificate.extensions.subjectAltName")
+    (λ c v. passes (λ s. list_any is_odd_directory_name s.0) v.subject_alt_name)
+alternative_sentence rules.SubjectAltNameSrvNameInvalid =
+    must_of (codes "RFC 4985") (codes "subject_alt_name_srv_name_invalid") (codes "2") (codes "tbsCertificate.extensions.subjectAltName")
+    (λ c v. passes (λ s. list_any is_no_srv_name s.0) v.subject_alt_name)
+alternative_sentence rules.SubjectAltNameSmtpUtf8MailboxInvalid =
+    must_of (codes "RFC 9598") (codes "subject_alt_name_smtp_utf8_mailbox_invalid") (codes "3") (codes "tbsCertificate.extensions.subjectAltName")
+    (λ c v. passes (λ s. list_any is_no_smtp_mailbox s.0) v.subject_alt_name)
+alternative_sentence rules.SubjectAltNameNotJudged =
+    not_judged (codes "subject_alt_name_not_read") (codes "4.2.1.6") (codes "tbsCertificate.extensions.subjectAltName")
+    (λ c v. is_unjudged (id_ce 17) Names (extensions_of c) (is_some v.subject_alt_name))
 alternative_sentence rules.IssuerAltNameEmpty =
     must (codes "issuer_alt_name_empty") (codes "4.2.1.7") (codes "tbsCertificate.extensions.issuerAltName")
     (λ c v. passes (λ s. is_empty s.0) v.issuer_alt_name)
@@ -191,3 +263,15 @@ alternative_sentence rules.IssuerAltNameUriInvalid =
 alternative_sentence rules.IssuerAltNameUriHostInvalid =
     must (codes "issuer_alt_name_uri_host_invalid") (codes "4.2.1.7") (codes "tbsCertificate.extensions.issuerAltName")
     (λ c v. passes (λ s. list_any is_at_other_host s.0) v.issuer_alt_name)
+alternative_sentence rules.IssuerAltNameDirectoryNameInvalid =
+    must (codes "issuer_alt_name_directory_name_invalid") (codes "4.2.1.7") (codes "tbsCertificate.extensions.issuerAltName")
+    (λ c v. passes (λ s. list_any is_odd_directory_name s.0) v.issuer_alt_name)
+alternative_sentence rules.IssuerAltNameSrvNameInvalid =
+    must_of (codes "RFC 4985") (codes "issuer_alt_name_srv_name_invalid") (codes "2") (codes "tbsCertificate.extensions.issuerAltName")
+    (λ c v. passes (λ s. list_any is_no_srv_name s.0) v.issuer_alt_name)
+alternative_sentence rules.IssuerAltNameSmtpUtf8MailboxInvalid =
+    must_of (codes "RFC 9598") (codes "issuer_alt_name_smtp_utf8_mailbox_invalid") (codes "3") (codes "tbsCertificate.extensions.issuerAltName")
+    (λ c v. passes (λ s. list_any is_no_smtp_mailbox s.0) v.issuer_alt_name)
+alternative_sentence rules.IssuerAltNameNotJudged =
+    not_judged (codes "issuer_alt_name_not_read") (codes "4.2.1.7") (codes "tbsCertificate.extensions.issuerAltName")
+    (λ c v. is_unjudged (id_ce 18) Names (extensions_of c) (is_some v.issuer_alt_name))

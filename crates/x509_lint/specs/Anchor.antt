@@ -1,7 +1,7 @@
 -- The rules on trust anchors (RFC 5914 2, RFC 5280 4.1.2.4, 4.2): what breaks each, their order, and how each is told.
 use Rattle.std.specs.Prelude.{◌≢◌, ◌↔◌, ◌&&◌, ◌==◌, IsTrue, ℕ, Bool, not, List, [], ◌∷◌, ◌++◌, length, Option, Some, None, bytes_eq, codes, is_some}
 use Rattle.std.specs.Char.{is_ascii_alphanumeric}
-use Rattle.std.specs.List.{list_all, list_any, slice_split}
+use Rattle.std.specs.List.{All, list_all, list_any, slice_split}
 use Rattle.std.specs.Str.{chars}
 use Rattle.x509_base.specs.declared.profile.Raw.{Raw}
 use Rattle.x509_base.specs.declared.subject_public_key_info.SubjectPublicKeyInfo.{SubjectPublicKeyInfo}
@@ -19,7 +19,7 @@ use Rattle.x509_lint.specs.List.{extension_text}
 use Rattle.x509_lint.specs.Name.{has_empty_rdn, has_no_country}
 use Rattle.x509_lint.specs.Read.{AreExtensionsRead, is_read}
 use Rattle.x509_lint.specs.Text.{has_faulty_text, is_outside}
-use Rattle.x509_lint.specs.Values.{policies_of, policy_identifiers}
+use Rattle.x509_lint.specs.Values.{HasDistinctTypes, policies_of, policy_identifiers}
 use Rattle.x509_lint.specs.Words.{Certificate, IsValue, extensions_of, has, is_empty, passes}
 use Rattle.x509_lint.specs.declared.anchor.values.AnchorValues.{AnchorValues}
 use Rattle.x509_lint.specs.declared.rule.anchor.AnchorRule.{AnchorRule}
@@ -28,8 +28,9 @@ use Rattle.x509_lint.specs.declared.rule.anchor.AnchorExtensionRule.{AnchorExten
 use Rattle.x509_lint.specs.declared.rule.anchor.AnchorExtensionRule.TheVariants as extensions
 use Rattle.x509_lint.specs.declared.rule.constraint.ConstraintRule.{ConstraintRule}
 use Rattle.x509_lint.specs.declared.rule.list.ExtensionKind.{ExtensionKind}
-use Rattle.x509_lint.specs.declared.texts.TextFault.TheVariants.{OtherType, OldType, OtherCharacter, Size}
+use Rattle.x509_lint.specs.declared.texts.TextFault.TheVariants.{OtherType, OldType, OtherCharacter, Size, Label}
 use Rattle.x509_lint.specs.Sentence.{Sentence, must, must_of, should, should_of}
+use Rattle.x509_name.specs.declared.attr.type_and_value.AttributeTypeAndValue.{AttributeTypeAndValue}
 use Rattle.x509_prim.specs.BitString.{parts_of}
 
 abbrev pub Controls : Type 0
@@ -59,6 +60,11 @@ are_subtags text = list_all is_subtag (slice_split (λ octet. octet == 45) text)
 abbrev pub policy_set : Option Controls → List PolicyInformation
 policy_set None = []
 policy_set (Some controls) = policies_of controls.policy_set
+
+-- the RDNs of the name in them
+abbrev pub ta_rdns : Option Controls → List (List AttributeTypeAndValue)
+ta_rdns None = []
+ta_rdns (Some controls) = controls.ta_name
 
 abbrev certificate_extensions : Option Certificate → List Extension
 certificate_extensions None = []
@@ -90,6 +96,7 @@ AreAnchorValues t v =
     × (IsTrue v.are_policies_distinct ↔ AreDistinct (policy_identifiers (policy_set t.cert_path)))
     × (IsTrue v.is_repeated ↔ IsRepeated (members t.extensions))
     × AreExtensionsRead (members t.extensions) v.read
+    × (IsTrue v.is_name_distinct ↔ All HasDistinctTypes (ta_rdns t.cert_path))
 
 -- ---- the rules, in their order
 
@@ -99,11 +106,13 @@ anchor_rules =
     ∷ rules.TaTitleLangTagInvalid
     ∷ rules.TaNameEmpty
     ∷ rules.TaNameRdnEmpty
+    ∷ rules.TaNameRdnTypeRepeated
     ∷ rules.TaNameCountryNameInvalid
     ∷ rules.TaNameTextType
     ∷ rules.TaNameTextOldType
     ∷ rules.TaNameTextCharacters
     ∷ rules.TaNameTextSize
+    ∷ rules.TaNameDomainComponentInvalid
     ∷ rules.CertificateSubjectDiffers
     ∷ rules.CertificateKeyDiffers
     ∷ rules.CertificateKeyIdentifierDiffers
@@ -124,6 +133,9 @@ anchor_sentence rules.TaNameEmpty =
 anchor_sentence rules.TaNameRdnEmpty =
     must (codes "ta_name_rdn_empty") (codes "4.1.2.4") (codes "taInfo.certPath.taName")
     (λ t v. passes (λ c. has_empty_rdn c.ta_name) t.cert_path)
+anchor_sentence rules.TaNameRdnTypeRepeated =
+    must_of (codes "X.501") (codes "ta_name_rdn_type_repeated") (codes "9.3") (codes "taInfo.certPath.taName")
+    (λ t v. not v.is_name_distinct)
 anchor_sentence rules.TaNameCountryNameInvalid =
     must (codes "ta_name_country_name_invalid") (codes "A.1") (codes "taInfo.certPath.taName")
     (λ t v. passes (λ c. has_no_country c.ta_name) t.cert_path)
@@ -139,6 +151,9 @@ anchor_sentence rules.TaNameTextCharacters =
 anchor_sentence rules.TaNameTextSize =
     must (codes "ta_name_text_size") (codes "A.1") (codes "taInfo.certPath.taName")
     (λ t v. passes (λ c. has_faulty_text Size c.ta_name) t.cert_path)
+anchor_sentence rules.TaNameDomainComponentInvalid =
+    must_of (codes "RFC 4519") (codes "ta_name_domain_component_invalid") (codes "2.4") (codes "taInfo.certPath.taName")
+    (λ t v. passes (λ c. has_faulty_text Label c.ta_name) t.cert_path)
 anchor_sentence rules.CertificateSubjectDiffers =
     must_of (codes "RFC 5914") (codes "certificate_subject_differs") (codes "2.5") (codes "taInfo.certPath.certificate.tbsCertificate.subject")
     (λ t v. v.subject_differs)

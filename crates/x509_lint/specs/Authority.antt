@@ -5,6 +5,8 @@ use Rattle.x509_ext.specs.declared.extension.Extension.{Extension}
 use Rattle.x509_prim.specs.Integer.{without_zeros}
 use Rattle.x509_ext.specs.declared.pkix.key_usage.KeyUsage.{KeyUsage}
 use Rattle.x509_ext.specs.Identifiers.{id_ce}
+use Rattle.x509_lint.specs.Beyond.{is_unjudged}
+use Rattle.x509_lint.specs.declared.beyond.Beyond.TheVariants.{Names}
 use Rattle.x509_lint.specs.Field.{is_v3}
 use Rattle.x509_lint.specs.Words.{Certificate, extensions_of, has, has_uncritical, is_empty, passes}
 use Rattle.x509_lint.specs.declared.basic_constraints.AnyBasicConstraints.{AnyBasicConstraints}
@@ -47,7 +49,8 @@ authority_rules =
     ∷ rules.CaBasicConstraintsNotCritical
     ∷ rules.PathLenWithoutCa
     ∷ rules.PathLenNotJudged
-    ∷ rules.NameConstraintsInLeaf ∷ []
+    ∷ rules.NameConstraintsInLeaf
+    ∷ rules.NameConstraintsNotJudged ∷ []
 
 abbrev pub authority_sentence : AuthorityRule → Sentence Certificate AuthorityValues
 authority_sentence rules.CaSubjectEmpty =
@@ -86,3 +89,6 @@ authority_sentence rules.PathLenNotJudged =
 authority_sentence rules.NameConstraintsInLeaf =
     must (codes "name_constraints_in_leaf") (codes "4.2.1.10") (codes "tbsCertificate.extensions.nameConstraints")
     (λ c v. is_no_ca (extensions_of c) v.basic_constraints && has (id_ce 30) (extensions_of c))
+authority_sentence rules.NameConstraintsNotJudged =
+    not_judged (codes "name_constraints_not_read") (codes "4.2.1.10") (codes "tbsCertificate.extensions.nameConstraints")
+    (λ c v. is_unjudged (id_ce 30) Names (extensions_of c) (is_some v.name_constraints))

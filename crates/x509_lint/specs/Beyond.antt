@@ -1,11 +1,12 @@
 -- What RFC 5280 allows and the types of this library can't hold: a large OID, which has more than 39 octets or a number of 2^32 or more, and an x400Address. An extension that
 -- can't be decoded and has one isn't called malformed, since the decoder's refusal doesn't tell whether the rest is right.
 use Rattle.std.specs.Prelude.{ℕ, Bool, true, false, ◌&&◌, ◌||◌, ◌==◌, not, nat_lt, List, [], ◌∷◌, length, if◌then◌else◌}
-use Rattle.std.specs.List.{slice_get}
+use Rattle.std.specs.List.{list_any, slice_get}
 use Rattle.x509_der.specs.ElementReading.{piece_at}
 use Rattle.x509_der.specs.ObjectIdentifier.{is_object_identifier}
 use Rattle.x509_lint.specs.Notices.{value_read}
-use Rattle.x509_lint.specs.Words.{is_empty, passes}
+use Rattle.x509_ext.specs.declared.extension.Extension.{Extension}
+use Rattle.x509_lint.specs.Words.{is_empty, is_of, passes}
 use Rattle.x509_lint.specs.declared.beyond.Beyond.{Beyond}
 use Rattle.x509_lint.specs.declared.beyond.Beyond.TheVariants.{Nothing, Identifiers, Names}
 
@@ -40,3 +41,7 @@ begins_beyond beyond octets = passes (λ p. is_beyond beyond p.tag p.content) (v
 abbrev pub has_beyond : Beyond → List ℕ → Bool
 has_beyond beyond [] = false
 has_beyond beyond (octet ∷ octets) = begins_beyond beyond (octet ∷ octets) || has_beyond beyond octets
+
+-- no value of the type is read, and an extension of it has one, so that the rules on what it says can't be judged
+abbrev pub is_unjudged : List ℕ → Beyond → List Extension → Bool → Bool
+is_unjudged oid beyond extensions is_read = not is_read && list_any (λ e. is_of oid e && has_beyond beyond e.extn_value) extensions

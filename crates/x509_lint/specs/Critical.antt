@@ -1,11 +1,12 @@
 -- The rules on which extensions of a certificate are critical (RFC 5280 4.2.1, 4.2.2): what breaks each, their order, and how each is told.
 use Rattle.std.specs.Prelude.{◌&&◌, not, List, [], ◌∷◌, codes}
 use Rattle.x509_ext.specs.Identifiers.{id_ce, id_pkix}
+use Rattle.x509_lint.specs.OtherTypes.{ocsp_no_check, precertificate_poison}
 use Rattle.x509_lint.specs.Words.{Certificate, extensions_of, has_critical, has_uncritical, is_empty}
 use Rattle.x509_lint.specs.declared.facts.CertificateFacts.{CertificateFacts}
 use Rattle.x509_lint.specs.declared.rule.critical.CriticalRule.{CriticalRule}
 use Rattle.x509_lint.specs.declared.rule.critical.CriticalRule.TheVariants as rules
-use Rattle.x509_lint.specs.Sentence.{Sentence, must, should}
+use Rattle.x509_lint.specs.Sentence.{Sentence, must, should, should_of, must_of}
 
 -- ---- the rules, in their order
 
@@ -24,7 +25,9 @@ critical_rules =
     ∷ rules.InhibitAnyPolicyNotCritical
     ∷ rules.FreshestCrlCritical
     ∷ rules.AuthorityInfoAccessCritical
-    ∷ rules.SubjectInfoAccessCritical ∷ []
+    ∷ rules.SubjectInfoAccessCritical
+    ∷ rules.OcspNoCheckCritical
+    ∷ rules.PrecertificatePoisonNotCritical ∷ []
 
 abbrev pub critical_sentence : CriticalRule → Sentence Certificate CertificateFacts
 critical_sentence rules.AuthorityKeyIdentifierCritical =
@@ -69,3 +72,9 @@ critical_sentence rules.AuthorityInfoAccessCritical =
 critical_sentence rules.SubjectInfoAccessCritical =
     must (codes "subject_info_access_critical") (codes "4.2.2.2") (codes "tbsCertificate.extensions.subjectInfoAccess")
     (λ c facts. has_critical (id_pkix 1 11) (extensions_of c))
+critical_sentence rules.OcspNoCheckCritical =
+    should_of (codes "RFC 6960") (codes "ocsp_no_check_critical") (codes "4.2.2.2.1") (codes "tbsCertificate.extensions.ocspNoCheck")
+    (λ c facts. has_critical ocsp_no_check (extensions_of c))
+critical_sentence rules.PrecertificatePoisonNotCritical =
+    must_of (codes "RFC 6962") (codes "precertificate_poison_not_critical") (codes "3.1") (codes "tbsCertificate.extensions.precertificatePoison")
+    (λ c facts. has_uncritical precertificate_poison (extensions_of c))

@@ -5,13 +5,15 @@ use Rattle.x509_ext.specs.Identifiers.{id_ce, id_pkix}
 use Rattle.x509_ext.specs.declared.pkix.crl_number.CrlNumber.{CrlNumber}
 use Rattle.x509_ext.specs.declared.pkix.issuing_distribution_point.IssuingDistributionPoint.{IssuingDistributionPoint}
 use Rattle.x509_prim.specs.Integer.{without_zeros}
+use Rattle.x509_lint.specs.Beyond.{is_unjudged}
+use Rattle.x509_lint.specs.declared.beyond.Beyond.TheVariants.{Names}
 use Rattle.x509_lint.specs.Place.{ca_issuers, has_other_method, is_faulty_point, lacks_uri}
 use Rattle.x509_lint.specs.declared.places.PointFault.TheVariants.{ReasonsOrIssuer}
 use Rattle.x509_lint.specs.Words.{Crl, crl_extensions_of, has, has_critical, has_uncritical, passes}
 use Rattle.x509_lint.specs.declared.values.CrlValues.{CrlValues}
 use Rattle.x509_lint.specs.declared.rule.crl_extension.CrlExtensionRule.{CrlExtensionRule}
 use Rattle.x509_lint.specs.declared.rule.crl_extension.CrlExtensionRule.TheVariants as rules
-use Rattle.x509_lint.specs.Sentence.{Sentence, must, should}
+use Rattle.x509_lint.specs.Sentence.{Sentence, must, should, not_judged}
 
 -- each field is absent or has its default
 abbrev pub is_empty_issuing_point : IssuingDistributionPoint → Bool
@@ -36,6 +38,7 @@ crl_extension_rules =
     rules.AuthorityKeyIdentifierAbsent
     ∷ rules.AuthorityKeyIdentifierWithoutKey
     ∷ rules.AuthorityKeyIdentifierCritical
+    ∷ rules.AuthorityKeyIdentifierNotJudged
     ∷ rules.IssuerAltNameCritical
     ∷ rules.CrlNumberAbsent
     ∷ rules.CrlNumberCritical
@@ -45,12 +48,15 @@ crl_extension_rules =
     ∷ rules.IssuingDistributionPointEmpty
     ∷ rules.IssuingDistributionPointKinds
     ∷ rules.IssuingDistributionPointAttributeCerts
+    ∷ rules.IssuingDistributionPointNotJudged
     ∷ rules.FreshestCrlCritical
     ∷ rules.FreshestCrlInDelta
     ∷ rules.FreshestCrlReasonsOrIssuer
+    ∷ rules.FreshestCrlNotJudged
     ∷ rules.AuthorityInfoAccessCritical
     ∷ rules.AuthorityInfoAccessOtherMethod
-    ∷ rules.CaIssuersWithoutUri ∷ []
+    ∷ rules.CaIssuersWithoutUri
+    ∷ rules.AuthorityInfoAccessNotJudged ∷ []
 
 abbrev pub crl_extension_sentence : CrlExtensionRule → Sentence Crl CrlValues
 crl_extension_sentence rules.AuthorityKeyIdentifierAbsent =
@@ -62,6 +68,9 @@ crl_extension_sentence rules.AuthorityKeyIdentifierWithoutKey =
 crl_extension_sentence rules.AuthorityKeyIdentifierCritical =
     must (codes "authority_key_identifier_critical") (codes "4.2.1.1") (codes "tbsCertList.crlExtensions.authorityKeyIdentifier")
     (λ l v. has_critical (id_ce 35) (crl_extensions_of l))
+crl_extension_sentence rules.AuthorityKeyIdentifierNotJudged =
+    not_judged (codes "authority_key_identifier_not_read") (codes "5.2.1") (codes "tbsCertList.crlExtensions.authorityKeyIdentifier")
+    (λ l v. is_unjudged (id_ce 35) Names (crl_extensions_of l) (is_some v.authority_key_identifier))
 crl_extension_sentence rules.IssuerAltNameCritical =
     should (codes "issuer_alt_name_critical") (codes "5.2.2") (codes "tbsCertList.crlExtensions.issuerAltName")
     (λ l v. has_critical (id_ce 18) (crl_extensions_of l))
@@ -89,6 +98,9 @@ crl_extension_sentence rules.IssuingDistributionPointKinds =
 crl_extension_sentence rules.IssuingDistributionPointAttributeCerts =
     must (codes "issuing_distribution_point_attribute_certs") (codes "5.2.5") (codes "tbsCertList.crlExtensions.issuingDistributionPoint")
     (λ l v. passes (λ p. p.only_contains_attribute_certs) v.issuing_distribution_point)
+crl_extension_sentence rules.IssuingDistributionPointNotJudged =
+    not_judged (codes "issuing_distribution_point_not_read") (codes "5.2.5") (codes "tbsCertList.crlExtensions.issuingDistributionPoint")
+    (λ l v. is_unjudged (id_ce 28) Names (crl_extensions_of l) (is_some v.issuing_distribution_point))
 crl_extension_sentence rules.FreshestCrlCritical =
     must (codes "freshest_crl_critical") (codes "5.2.6") (codes "tbsCertList.crlExtensions.freshestCRL")
     (λ l v. has_critical (id_ce 46) (crl_extensions_of l))
@@ -98,6 +110,9 @@ crl_extension_sentence rules.FreshestCrlInDelta =
 crl_extension_sentence rules.FreshestCrlReasonsOrIssuer =
     must (codes "freshest_crl_reasons_or_issuer") (codes "5.2.6") (codes "tbsCertList.crlExtensions.freshestCRL")
     (λ l v. passes (λ p. list_any (is_faulty_point ReasonsOrIssuer) p.0) v.freshest_crl)
+crl_extension_sentence rules.FreshestCrlNotJudged =
+    not_judged (codes "freshest_crl_not_read") (codes "5.2.6") (codes "tbsCertList.crlExtensions.freshestCRL")
+    (λ l v. is_unjudged (id_ce 46) Names (crl_extensions_of l) (is_some v.freshest_crl))
 crl_extension_sentence rules.AuthorityInfoAccessCritical =
     must (codes "authority_info_access_critical") (codes "5.2.7") (codes "tbsCertList.crlExtensions.authorityInfoAccess")
     (λ l v. has_critical (id_pkix 1 1) (crl_extensions_of l))
@@ -107,3 +122,6 @@ crl_extension_sentence rules.AuthorityInfoAccessOtherMethod =
 crl_extension_sentence rules.CaIssuersWithoutUri =
     should (codes "ca_issuers_without_uri") (codes "5.2.7") (codes "tbsCertList.crlExtensions.authorityInfoAccess")
     (λ l v. passes (λ a. lacks_uri ca_issuers a.0) v.authority_info_access)
+crl_extension_sentence rules.AuthorityInfoAccessNotJudged =
+    not_judged (codes "authority_info_access_not_read") (codes "5.2.7") (codes "tbsCertList.crlExtensions.authorityInfoAccess")
+    (λ l v. is_unjudged (id_pkix 1 1) Names (crl_extensions_of l) (is_some v.authority_info_access))

@@ -11,7 +11,7 @@ use Rattle.x509_ext.specs.LookUp.{members}
 use Rattle.x509_lint.specs.Name.{has_empty_rdn, has_no_country}
 use Rattle.x509_lint.specs.Read.{is_crl_read}
 use Rattle.x509_lint.specs.Text.{has_faulty_text}
-use Rattle.x509_lint.specs.declared.texts.TextFault.TheVariants.{OtherType, OldType, OtherCharacter, Size}
+use Rattle.x509_lint.specs.declared.texts.TextFault.TheVariants.{OtherType, OldType, OtherCharacter, Size, Label}
 use Rattle.x509_lint.specs.Words.{Crl, has, is_before, is_early_general, is_empty, passes}
 use Rattle.x509_lint.specs.declared.facts.CrlFacts.{CrlFacts}
 use Rattle.x509_lint.specs.declared.rule.crl_field.CrlExtensionKind.{CrlExtensionKind}
@@ -20,7 +20,7 @@ use Rattle.x509_lint.specs.declared.rule.crl_field.CrlFieldRule.{CrlFieldRule}
 use Rattle.x509_lint.specs.declared.rule.crl_field.CrlFieldRule.TheVariants as rules
 use Rattle.x509_lint.specs.declared.rule.crl_field.CrlEntryListRule.{CrlEntryListRule}
 use Rattle.x509_lint.specs.declared.rule.crl_field.CrlEntryListRule.TheVariants as lists
-use Rattle.x509_lint.specs.Sentence.{Sentence, must, should}
+use Rattle.x509_lint.specs.Sentence.{Sentence, must, should, must_of}
 
 abbrev pub is_v2 : Version → Bool
 is_v2 V1 = false
@@ -43,11 +43,13 @@ crl_field_rules =
     ∷ rules.VersionNotV2
     ∷ rules.IssuerEmpty
     ∷ rules.IssuerRdnEmpty
+    ∷ rules.IssuerRdnTypeRepeated
     ∷ rules.IssuerCountryNameInvalid
     ∷ rules.IssuerTextType
     ∷ rules.IssuerTextOldType
     ∷ rules.IssuerTextCharacters
     ∷ rules.IssuerTextSize
+    ∷ rules.IssuerDomainComponentInvalid
     ∷ rules.ThisUpdateNotUtcTime
     ∷ rules.NextUpdateAbsent
     ∷ rules.NextUpdateNotUtcTime
@@ -74,6 +76,9 @@ crl_field_sentence rules.IssuerEmpty =
 crl_field_sentence rules.IssuerRdnEmpty =
     must (codes "issuer_rdn_empty") (codes "5.1.2.3") (codes "tbsCertList.issuer")
     (λ l facts. has_empty_rdn l.tbs_cert_list.issuer)
+crl_field_sentence rules.IssuerRdnTypeRepeated =
+    must_of (codes "X.501") (codes "issuer_rdn_type_repeated") (codes "9.3") (codes "tbsCertList.issuer")
+    (λ l facts. not facts.is_issuer_distinct)
 crl_field_sentence rules.IssuerCountryNameInvalid =
     must (codes "issuer_country_name_invalid") (codes "A.1") (codes "tbsCertList.issuer")
     (λ l facts. has_no_country l.tbs_cert_list.issuer)
@@ -89,6 +94,9 @@ crl_field_sentence rules.IssuerTextCharacters =
 crl_field_sentence rules.IssuerTextSize =
     must (codes "issuer_text_size") (codes "A.1") (codes "tbsCertList.issuer")
     (λ l facts. has_faulty_text Size l.tbs_cert_list.issuer)
+crl_field_sentence rules.IssuerDomainComponentInvalid =
+    must_of (codes "RFC 4519") (codes "issuer_domain_component_invalid") (codes "2.4") (codes "tbsCertList.issuer")
+    (λ l facts. has_faulty_text Label l.tbs_cert_list.issuer)
 crl_field_sentence rules.ThisUpdateNotUtcTime =
     must (codes "this_update_not_utc_time") (codes "5.1.2.4") (codes "tbsCertList.thisUpdate")
     (λ l facts. is_early_general l.tbs_cert_list.this_update)

@@ -4,12 +4,14 @@ use Rattle.std.specs.List.{list_any}
 use Rattle.x509_ext.specs.declared.pkix.authority_key_identifier.AuthorityKeyIdentifier.{AuthorityKeyIdentifier}
 use Rattle.x509_ext.specs.Identifiers.{id_ce}
 use Rattle.x509_name.specs.Names.{rdn_sequence_eq}
+use Rattle.x509_lint.specs.Beyond.{is_unjudged}
+use Rattle.x509_lint.specs.declared.beyond.Beyond.TheVariants.{Identifiers, Names}
 use Rattle.x509_lint.specs.Field.{is_v3}
 use Rattle.x509_lint.specs.Words.{Certificate, extensions_of, has, has_critical, is_empty, passes}
 use Rattle.x509_lint.specs.declared.values.KeyValues.{KeyValues}
 use Rattle.x509_lint.specs.declared.rule.key.KeyRule.{KeyRule}
 use Rattle.x509_lint.specs.declared.rule.key.KeyRule.TheVariants as rules
-use Rattle.x509_lint.specs.Sentence.{Sentence, must, should}
+use Rattle.x509_lint.specs.Sentence.{Sentence, must, should, not_judged}
 
 -- the content octets of 2.5.29.37.0, anyExtendedKeyUsage (RFC 5280 4.2.1.12)
 abbrev pub any_extended_key_usage : List ℕ
@@ -33,8 +35,10 @@ key_rules =
     ∷ rules.AuthorityKeyIdentifierWithoutKey
     ∷ rules.AuthorityCertIssuerEmpty
     ∷ rules.AuthorityCertIssuerAndSerialApart
+    ∷ rules.AuthorityKeyIdentifierNotJudged
     ∷ rules.ExtendedKeyUsageEmpty
     ∷ rules.AnyExtendedKeyUsageCritical
+    ∷ rules.ExtendedKeyUsageNotJudged
     ∷ rules.PrivateKeyUsagePeriodEmpty ∷ []
 
 abbrev pub key_sentence : KeyRule → Sentence Certificate KeyValues
@@ -50,12 +54,18 @@ key_sentence rules.AuthorityCertIssuerEmpty =
 key_sentence rules.AuthorityCertIssuerAndSerialApart =
     must (codes "authority_cert_issuer_and_serial_apart") (codes "4.2.1.1") (codes "tbsCertificate.extensions.authorityKeyIdentifier")
     (λ c v. passes has_half_issuer v.authority_key_identifier)
+key_sentence rules.AuthorityKeyIdentifierNotJudged =
+    not_judged (codes "authority_key_identifier_not_read") (codes "4.2.1.1") (codes "tbsCertificate.extensions.authorityKeyIdentifier")
+    (λ c v. is_unjudged (id_ce 35) Names (extensions_of c) (is_some v.authority_key_identifier))
 key_sentence rules.ExtendedKeyUsageEmpty =
     must (codes "extended_key_usage_empty") (codes "4.2.1.12") (codes "tbsCertificate.extensions.extKeyUsage")
     (λ c v. passes (λ u. is_empty u.0) v.extended_key_usage)
 key_sentence rules.AnyExtendedKeyUsageCritical =
     should (codes "any_extended_key_usage_critical") (codes "4.2.1.12") (codes "tbsCertificate.extensions.extKeyUsage")
     (λ c v. passes (λ u. list_any (λ purpose. bytes_eq purpose any_extended_key_usage) u.0) v.extended_key_usage && has_critical (id_ce 37) (extensions_of c))
+key_sentence rules.ExtendedKeyUsageNotJudged =
+    not_judged (codes "extended_key_usage_not_read") (codes "4.2.1.12") (codes "tbsCertificate.extensions.extKeyUsage")
+    (λ c v. is_unjudged (id_ce 37) Identifiers (extensions_of c) (is_some v.extended_key_usage))
 key_sentence rules.PrivateKeyUsagePeriodEmpty =
     must (codes "private_key_usage_period_empty") (codes "A.2") (codes "tbsCertificate.extensions.privateKeyUsagePeriod")
     (λ c v. passes (λ p. not (is_some p.not_before) && not (is_some p.not_after)) v.private_key_usage_period)

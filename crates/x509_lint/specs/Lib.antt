@@ -4,6 +4,7 @@ pub mod Words
 pub mod Uri
 pub mod BasicConstraints
 pub mod SkipCerts
+pub mod OtherTypes
 pub mod Notices
 pub mod Beyond
 pub mod Place

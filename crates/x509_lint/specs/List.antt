@@ -45,7 +45,11 @@ extension_kinds =
     ∷ kinds.PolicyConstraints
     ∷ kinds.InhibitAnyPolicy
     ∷ kinds.CrlDistributionPoints
-    ∷ kinds.FreshestCrl ∷ []
+    ∷ kinds.FreshestCrl
+    ∷ kinds.OcspNoCheck
+    ∷ kinds.PrecertificatePoison
+    ∷ kinds.TlsFeatures
+    ∷ kinds.QcStatements ∷ []
 
 -- the name of an extension of the type
 abbrev pub extension_text : ExtensionKind → List ℕ
@@ -67,6 +71,10 @@ extension_text kinds.PolicyConstraints = codes "policyConstraints"
 extension_text kinds.InhibitAnyPolicy = codes "inhibitAnyPolicy"
 extension_text kinds.CrlDistributionPoints = codes "cRLDistributionPoints"
 extension_text kinds.FreshestCrl = codes "freshestCRL"
+extension_text kinds.OcspNoCheck = codes "ocspNoCheck"
+extension_text kinds.PrecertificatePoison = codes "precertificatePoison"
+extension_text kinds.TlsFeatures = codes "tlsFeature"
+extension_text kinds.QcStatements = codes "qcStatements"
 
 -- where in a certificate an extension of the type stands
 abbrev pub extension_place : ExtensionKind → List ℕ

@@ -9,12 +9,12 @@ use Rattle.x509_ext.specs.Identifiers.{id_ce}
 use Rattle.x509_name.specs.AttributeTypes.{country_name}
 use Rattle.x509_name.specs.declared.attr.type_and_value.AttributeTypeAndValue.{AttributeTypeAndValue}
 use Rattle.x509_lint.specs.Text.{has_faulty_text}
-use Rattle.x509_lint.specs.declared.texts.TextFault.TheVariants.{OtherType, OldType, OtherCharacter, Size}
+use Rattle.x509_lint.specs.declared.texts.TextFault.TheVariants.{OtherType, OldType, OtherCharacter, Size, Label}
 use Rattle.x509_lint.specs.Words.{Certificate, extensions_of, has_critical, is_empty}
 use Rattle.x509_lint.specs.declared.facts.CertificateFacts.{CertificateFacts}
 use Rattle.x509_lint.specs.declared.rule.name.NameRule.{NameRule}
 use Rattle.x509_lint.specs.declared.rule.name.NameRule.TheVariants as rules
-use Rattle.x509_lint.specs.Sentence.{Sentence, must, should}
+use Rattle.x509_lint.specs.Sentence.{Sentence, must, should, must_of}
 
 abbrev pub is_printable : Tag → Bool
 is_printable PrintableString = true
@@ -40,23 +40,30 @@ has_empty_rdn rdns = list_any (λ rdn. is_empty rdn) rdns
 abbrev pub name_rules : List NameRule
 name_rules =
     rules.IssuerRdnEmpty
+    ∷ rules.IssuerRdnTypeRepeated
     ∷ rules.IssuerCountryNameInvalid
     ∷ rules.IssuerTextType
     ∷ rules.IssuerTextOldType
     ∷ rules.IssuerTextCharacters
     ∷ rules.IssuerTextSize
+    ∷ rules.IssuerDomainComponentInvalid
     ∷ rules.SubjectRdnEmpty
+    ∷ rules.SubjectRdnTypeRepeated
     ∷ rules.SubjectCountryNameInvalid
     ∷ rules.SubjectTextType
     ∷ rules.SubjectTextOldType
     ∷ rules.SubjectTextCharacters
     ∷ rules.SubjectTextSize
+    ∷ rules.SubjectDomainComponentInvalid
     ∷ rules.SubjectEmptyWithoutCriticalAltName ∷ []
 
 abbrev pub name_sentence : NameRule → Sentence Certificate CertificateFacts
 name_sentence rules.IssuerRdnEmpty =
     must (codes "issuer_rdn_empty") (codes "4.1.2.4") (codes "tbsCertificate.issuer")
     (λ c facts. has_empty_rdn c.tbs_certificate.issuer)
+name_sentence rules.IssuerRdnTypeRepeated =
+    must_of (codes "X.501") (codes "issuer_rdn_type_repeated") (codes "9.3") (codes "tbsCertificate.issuer")
+    (λ c facts. not facts.is_issuer_distinct)
 name_sentence rules.IssuerCountryNameInvalid =
     must (codes "issuer_country_name_invalid") (codes "A.1") (codes "tbsCertificate.issuer")
     (λ c facts. has_no_country c.tbs_certificate.issuer)
@@ -72,9 +79,15 @@ name_sentence rules.IssuerTextCharacters =
 name_sentence rules.IssuerTextSize =
     must (codes "issuer_text_size") (codes "A.1") (codes "tbsCertificate.issuer")
     (λ c facts. has_faulty_text Size c.tbs_certificate.issuer)
+name_sentence rules.IssuerDomainComponentInvalid =
+    must_of (codes "RFC 4519") (codes "issuer_domain_component_invalid") (codes "2.4") (codes "tbsCertificate.issuer")
+    (λ c facts. has_faulty_text Label c.tbs_certificate.issuer)
 name_sentence rules.SubjectRdnEmpty =
     must (codes "subject_rdn_empty") (codes "4.1.2.6") (codes "tbsCertificate.subject")
     (λ c facts. has_empty_rdn c.tbs_certificate.subject)
+name_sentence rules.SubjectRdnTypeRepeated =
+    must_of (codes "X.501") (codes "subject_rdn_type_repeated") (codes "9.3") (codes "tbsCertificate.subject")
+    (λ c facts. not facts.is_subject_distinct)
 name_sentence rules.SubjectCountryNameInvalid =
     must (codes "subject_country_name_invalid") (codes "A.1") (codes "tbsCertificate.subject")
     (λ c facts. has_no_country c.tbs_certificate.subject)
@@ -90,6 +103,9 @@ name_sentence rules.SubjectTextCharacters =
 name_sentence rules.SubjectTextSize =
     must (codes "subject_text_size") (codes "A.1") (codes "tbsCertificate.subject")
     (λ c facts. has_faulty_text Size c.tbs_certificate.subject)
+name_sentence rules.SubjectDomainComponentInvalid =
+    must_of (codes "RFC 4519") (codes "subject_domain_component_invalid") (codes "2.4") (codes "tbsCertificate.subject")
+    (λ c facts. has_faulty_text Label c.tbs_certificate.subject)
 name_sentence rules.SubjectEmptyWithoutCriticalAltName =
     must (codes "subject_empty_without_critical_alt_name") (codes "4.1.2.6") (codes "tbsCertificate.subject")
     (λ c facts. is_empty c.tbs_certificate.subject && not (has_critical (id_ce 17) (extensions_of c)))

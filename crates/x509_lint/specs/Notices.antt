@@ -17,7 +17,7 @@ use Rattle.x509_ext.specs.declared.pkix.user_notice.UserNotice.{UserNotice}
 use Rattle.x509_lint.specs.Words.{passes}
 use Rattle.x509_prim.specs.Bmp.{bmp_chars}
 use Rattle.x509_lint.specs.declared.notices.NoticeFault.{NoticeFault}
-use Rattle.x509_lint.specs.declared.notices.NoticeFault.TheVariants.{Long, NoText, OldType, Ia5Type, Control, Reference, Unnormalized}
+use Rattle.x509_lint.specs.declared.notices.NoticeFault.TheVariants.{Long, NoText, OldType, Ia5Type, Control, Reference, Unnormalized, Unread}
 
 -- how many characters a text has: one for each octet, two octets for each (X.690 8.23.8), or those of UTF-8
 abbrev pub char_count : DisplayText → ℕ
@@ -66,6 +66,7 @@ is_faulty_text Ia5Type text = is_ia5_text text
 is_faulty_text Control text = has_control text
 is_faulty_text Reference text = false
 is_faulty_text Unnormalized text = is_unnormalized text
+is_faulty_text Unread text = false
 
 abbrev pub is_reference : NoticeFault → Bool
 is_reference Reference = true
@@ -79,13 +80,27 @@ abbrev pub value_read : {X : Type 0} → Result X ErrorKind → Option X
 value_read (Ok x) = Some x
 value_read (Err e) = None
 
--- the user notice that an element is the encoding of, where it is that of one, has the fault
-unfoldable pub is_faulty_element : NoticeFault → Any → Bool
-is_faulty_element fault element = passes (is_faulty_notice fault) (value_read (user_notice.reading (octet_of element.tag) element.value))
+abbrev pub is_unread : NoticeFault → Bool
+is_unread Unread = true
+is_unread other = false
 
--- a qualifier that is a user notice (id-qt-unotice) with the fault
+-- the user notice has the fault; where there is none, that is the fault
+abbrev pub is_faulty_reading : NoticeFault → Option UserNotice → Bool
+is_faulty_reading fault None = is_unread fault
+is_faulty_reading fault (Some notice) = is_faulty_notice fault notice
+
+-- that which an element is the encoding of
+unfoldable pub is_faulty_element : NoticeFault → Any → Bool
+is_faulty_element fault element = is_faulty_reading fault (value_read (user_notice.reading (octet_of element.tag) element.value))
+
+-- an element that has to be there
+abbrev pub is_faulty_payload : NoticeFault → Option Any → Bool
+is_faulty_payload fault None = is_unread fault
+is_faulty_payload fault (Some element) = is_faulty_element fault element
+
+-- a qualifier whose type is that of a user notice (id-qt-unotice), with the fault
 abbrev pub is_faulty_qualifier : NoticeFault → PolicyQualifierInfo → Bool
-is_faulty_qualifier fault q = bytes_eq q.policy_qualifier_id (id_pkix 2 2) && passes (is_faulty_element fault) q.qualifier
+is_faulty_qualifier fault q = bytes_eq q.policy_qualifier_id (id_pkix 2 2) && is_faulty_payload fault q.qualifier
 
 abbrev pub are_faulty_qualifiers : NoticeFault → List PolicyQualifierInfo → Bool
 are_faulty_qualifiers fault qualifiers = list_any (is_faulty_qualifier fault) qualifiers

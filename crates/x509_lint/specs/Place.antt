@@ -12,10 +12,10 @@ use Rattle.x509_ext.specs.declared.pkix.name.general_name.GeneralName.TheVariant
 use Rattle.x509_ext.specs.declared.pkix.reasons.Reasons.{Reasons}
 use Rattle.x509_name.specs.Names.{rdn_sequence_eq}
 use Rattle.x509_name.specs.declared.attr.type_and_value.AttributeTypeAndValue.{AttributeTypeAndValue}
-use Rattle.x509_lint.specs.Uri.{has_attributes, has_dn, has_ldap_host, has_one_attribute}
+use Rattle.x509_lint.specs.Uri.{has_attributes, has_dn, has_ldap_host, has_one_attribute, is_any_uri}
 use Rattle.x509_lint.specs.Words.{is_empty, passes}
 use Rattle.x509_lint.specs.declared.places.PointFault.{PointFault}
-use Rattle.x509_lint.specs.declared.places.PointFault.TheVariants.{Relative, RelativeToSeveral, NoUri, OtherIssuer, ReasonsOrIssuer, LdapIncomplete, LdapWithoutHost}
+use Rattle.x509_lint.specs.declared.places.PointFault.TheVariants.{Relative, RelativeToSeveral, NoUri, OtherIssuer, ReasonsOrIssuer, LdapIncomplete, LdapWithoutHost, NoNames, UriInvalid}
 
 -- ---- URIs
 
@@ -54,6 +54,16 @@ abbrev pub is_without_host : GeneralName → Bool
 is_without_host (UniformResourceIdentifier text) = is_ldap text && not (has_ldap_host text)
 is_without_host other = false
 
+-- a text in the place of a URI that isn't one (RFC 3986 3)
+abbrev pub is_other_uri : GeneralName → Bool
+is_other_uri (UniformResourceIdentifier text) = not (is_any_uri text)
+is_other_uri other = false
+
+-- a name in the form of a URI
+abbrev pub is_uri_name : GeneralName → Bool
+is_uri_name (UniformResourceIdentifier text) = true
+is_uri_name other = false
+
 -- ---- distribution points
 
 abbrev pub is_relative_name : DistributionPointName → Bool
@@ -69,6 +79,11 @@ is_name_without_uri (NameRelativeToCRLIssuer rdn) = false
 abbrev pub has_name : (GeneralName → Bool) → DistributionPointName → Bool
 has_name test (FullName names) = list_any test names
 has_name test (NameRelativeToCRLIssuer rdn) = false
+
+-- no general name, or no attribute
+abbrev pub has_no_names : DistributionPointName → Bool
+has_no_names (FullName names) = is_empty names
+has_no_names (NameRelativeToCRLIssuer rdn) = is_empty rdn
 
 abbrev pub is_no_directory_name : GeneralName → Bool
 is_no_directory_name (DirectoryName rdns) = false
@@ -104,6 +119,8 @@ is_faulty_point OtherIssuer p = passes (λ names. list_any is_no_directory_name 
 is_faulty_point ReasonsOrIssuer p = is_some p.reasons || is_some p.crl_issuer
 is_faulty_point LdapIncomplete p = passes (λ n. has_name is_incomplete_entry n) p.distribution_point
 is_faulty_point LdapWithoutHost p = passes (λ n. has_name is_without_host n) p.distribution_point
+is_faulty_point NoNames p = passes has_no_names p.distribution_point || passes is_empty p.crl_issuer
+is_faulty_point UriInvalid p = passes (λ n. has_name is_other_uri n) p.distribution_point
 
 -- ---- access descriptions
 
@@ -113,6 +130,10 @@ ca_issuers = id_pkix 48 2
 
 abbrev pub ca_repository : List ℕ
 ca_repository = id_pkix 48 5
+
+-- id-ad-ocsp (RFC 6960 3.1)
+abbrev pub ocsp : List ℕ
+ocsp = id_pkix 48 1
 
 abbrev pub has_method : List ℕ → List AccessDescription → Bool
 has_method method descriptions = list_any (λ d. bytes_eq d.access_method method) descriptions
@@ -125,6 +146,10 @@ lacks_uri method descriptions =
 -- a description of the method has a place that passes the test
 abbrev pub has_place : (GeneralName → Bool) → List ℕ → List AccessDescription → Bool
 has_place test method descriptions = list_any (λ d. bytes_eq d.access_method method && test d.access_location) descriptions
+
+-- there are descriptions of the method, and none of them has a URI of any kind
+abbrev pub lacks_any_uri : List ℕ → List AccessDescription → Bool
+lacks_any_uri method descriptions = has_method method descriptions && not (has_place is_uri_name method descriptions)
 
 -- there is no description of the method, or one of another
 abbrev pub has_other_method : List ℕ → List AccessDescription → Bool

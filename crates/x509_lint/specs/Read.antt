@@ -1,5 +1,5 @@
--- Which types of extensions are right: the octets of each extension of the type spell a value of the type that RFC 5280 has for its OID (RFC 5280 4.2, 5.2), or they have
--- what this library can't hold.
+-- Which types of extensions are right: the octets of each extension of the type spell a value of the type that RFC 5280 or another standard has for its OID (RFC 5280 4.2,
+-- 5.2), or they have what this library can't hold.
 use Rattle.std.specs.Prelude.{◌≡◌, ◌↔◌, ◌⊎◌, IsTrue, ℕ, Bool, List}
 use Rattle.std.specs.List.{All}
 use Rattle.x509_der.specs.Form.{Form, Spells}
@@ -21,6 +21,7 @@ use Rattle.x509_ext.specs.Identifiers.{id_ce, id_pkix}
 use Rattle.x509_ext.specs.declared.extension.Extension.{Extension}
 use Rattle.x509_lint.specs.BasicConstraints.{any_basic_constraints}
 use Rattle.x509_lint.specs.Beyond.{has_beyond}
+use Rattle.x509_lint.specs.OtherTypes.{are_null, ocsp_no_check, precertificate_poison, qc_statements, tls_features}
 use Rattle.x509_lint.specs.SkipCerts.{any_inhibit_any_policy, any_policy_constraints}
 use Rattle.x509_lint.specs.declared.beyond.Beyond.{Beyond}
 use Rattle.x509_lint.specs.declared.beyond.Beyond.TheVariants.{Nothing, Identifiers, Names}
@@ -28,6 +29,7 @@ use Rattle.x509_lint.specs.declared.read.CrlRead.{CrlRead}
 use Rattle.x509_lint.specs.declared.read.ExtensionsRead.{ExtensionsRead}
 use Rattle.x509_lint.specs.declared.read.KeysRead.{KeysRead}
 use Rattle.x509_lint.specs.declared.read.NamesRead.{NamesRead}
+use Rattle.x509_lint.specs.declared.read.OthersRead.{OthersRead}
 use Rattle.x509_lint.specs.declared.read.PoliciesRead.{PoliciesRead}
 use Rattle.x509_lint.specs.declared.rule.list.ExtensionKind.{ExtensionKind}
 use Rattle.x509_lint.specs.declared.rule.list.ExtensionKind.TheVariants as kinds
@@ -73,9 +75,17 @@ ArePoliciesRead extensions read =
     × (IsTrue read.crl_distribution_points ↔ AreWellFormedAs crl_distribution_points Names (id_ce 31) extensions)
     × (IsTrue read.freshest_crl ↔ AreWellFormedAs freshest_crl Names (id_ce 46) extensions)
 
+unfoldable pub AreOthersRead : List Extension → OthersRead → Type 0
+AreOthersRead extensions read =
+    (read.ocsp_no_check ≡ are_null ocsp_no_check extensions)
+    × (read.precertificate_poison ≡ are_null precertificate_poison extensions)
+    × (IsTrue read.tls_features ↔ AreWellFormedAs tls_features Nothing (id_pkix 1 24) extensions)
+    × (IsTrue read.qc_statements ↔ AreWellFormedAs qc_statements Identifiers (id_pkix 1 3) extensions)
+
 -- those that certificates have
 abbrev pub AreExtensionsRead : List Extension → ExtensionsRead → Type 0
-AreExtensionsRead extensions read = AreKeysRead extensions read.keys × AreNamesRead extensions read.names × ArePoliciesRead extensions read.policies
+AreExtensionsRead extensions read =
+    AreKeysRead extensions read.keys × AreNamesRead extensions read.names × ArePoliciesRead extensions read.policies × AreOthersRead extensions read.others
 
 -- those that CRLs have
 unfoldable pub IsCrlRead : List Extension → CrlRead → Type 0
@@ -107,6 +117,10 @@ is_read read kinds.PolicyConstraints = read.policies.policy_constraints
 is_read read kinds.InhibitAnyPolicy = read.policies.inhibit_any_policy
 is_read read kinds.CrlDistributionPoints = read.policies.crl_distribution_points
 is_read read kinds.FreshestCrl = read.policies.freshest_crl
+is_read read kinds.OcspNoCheck = read.others.ocsp_no_check
+is_read read kinds.PrecertificatePoison = read.others.precertificate_poison
+is_read read kinds.TlsFeatures = read.others.tls_features
+is_read read kinds.QcStatements = read.others.qc_statements
 
 abbrev pub is_crl_read : CrlRead → CrlExtensionKind → Bool
 is_crl_read read crl_kinds.AuthorityKeyIdentifier = read.authority_key_identifier

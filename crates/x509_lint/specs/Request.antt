@@ -1,6 +1,6 @@
 -- The rules on CSRs (RFC 2986 4.1, RFC 2985 5.4, RFC 5280 4.1.2.6, 4.2): what breaks each, their order, and how each is told.
 use Rattle.std.specs.Prelude.{◌≡◌, ◌↔◌, ◌&&◌, ◌||◌, IsTrue, ℕ, Bool, not, nat_lt, List, [], ◌∷◌, ◌++◌, length, Option, Some, None, bytes_eq, codes, is_some, map, refl}
-use Rattle.std.specs.List.{list_all, list_any}
+use Rattle.std.specs.List.{All, list_all, list_any}
 use Rattle.x509_cert.specs.AttributeLookUp.{with_type}
 use Rattle.x509_cert.specs.ChallengePassword.{challenge_password}
 use Rattle.x509_cert.specs.Identifiers.{pkcs_9}
@@ -17,12 +17,15 @@ use Rattle.x509_ext.specs.Extension.{extensions}
 use Rattle.x509_ext.specs.Identifiers.{id_ce}
 use Rattle.x509_ext.specs.LookUp.{IsRepeated}
 use Rattle.x509_ext.specs.declared.extension.Extension.{Extension}
-use Rattle.x509_lint.specs.Alternative.{is_at_other_host, is_empty_name, is_no_address, is_no_dns_name, is_no_mailbox, is_no_uri, is_relative}
+use Rattle.x509_lint.specs.Alternative.{is_at_other_host, is_empty_name, is_no_address, is_no_dns_name, is_no_mailbox, is_no_smtp_mailbox, is_no_srv_name, is_no_uri, is_odd_directory_name, is_relative}
+use Rattle.x509_lint.specs.Beyond.{is_unjudged}
+use Rattle.x509_lint.specs.declared.beyond.Beyond.TheVariants.{Names}
 use Rattle.x509_lint.specs.List.{extension_text}
 use Rattle.x509_lint.specs.Name.{has_empty_rdn, has_no_country}
 use Rattle.x509_lint.specs.Notices.{value_read}
 use Rattle.x509_lint.specs.Read.{AreExtensionsRead, is_read}
 use Rattle.x509_lint.specs.Text.{char_count, has_faulty_text, is_new_string, is_old_string, is_outside, is_printable_octet, is_utf8_string}
+use Rattle.x509_lint.specs.Values.{HasDistinctTypes}
 use Rattle.x509_lint.specs.Words.{IsValue, has, is_empty, passes}
 use Rattle.x509_lint.specs.declared.request.passwords.PasswordFault.{PasswordFault}
 use Rattle.x509_lint.specs.declared.request.passwords.PasswordFault.TheVariants as passwords
@@ -32,8 +35,8 @@ use Rattle.x509_lint.specs.declared.rule.request.RequestRule.{RequestRule}
 use Rattle.x509_lint.specs.declared.rule.request.RequestRule.TheVariants as rules
 use Rattle.x509_lint.specs.declared.rule.request.RequestNameRule.{RequestNameRule}
 use Rattle.x509_lint.specs.declared.rule.request.RequestNameRule.TheVariants as names
-use Rattle.x509_lint.specs.declared.texts.TextFault.TheVariants.{OtherType, OldType, OtherCharacter, Size}
-use Rattle.x509_lint.specs.Sentence.{Sentence, must, must_of, should, should_of}
+use Rattle.x509_lint.specs.declared.texts.TextFault.TheVariants.{OtherType, OldType, OtherCharacter, Size, Label}
+use Rattle.x509_lint.specs.Sentence.{Sentence, must, must_of, should, should_of, not_judged}
 use Rattle.x509_name.specs.declared.attr.attribute.Attribute.{Attribute}
 
 -- ---- attributes (RFC 2986 4.1)
@@ -114,17 +117,20 @@ AreRequestValues r v =
     × (IsTrue v.is_repeated ↔ IsRepeated (requested_extensions v.requested))
     × AreExtensionsRead (requested_extensions v.requested) v.read
     × IsValue subject_alt_name (id_ce 17) (requested_extensions v.requested) v.subject_alt_name
+    × (IsTrue v.is_subject_distinct ↔ All HasDistinctTypes r.info.subject)
 
 -- ---- the rules, in their order
 
 abbrev pub request_rules : List RequestRule
 request_rules =
     rules.SubjectRdnEmpty
+    ∷ rules.SubjectRdnTypeRepeated
     ∷ rules.SubjectCountryNameInvalid
     ∷ rules.SubjectTextType
     ∷ rules.SubjectTextOldType
     ∷ rules.SubjectTextCharacters
     ∷ rules.SubjectTextSize
+    ∷ rules.SubjectDomainComponentInvalid
     ∷ rules.SubjectEmptyWithoutAltName
     ∷ rules.AttributeRepeated
     ∷ rules.AttributeValuesEmpty
@@ -141,6 +147,9 @@ abbrev pub request_sentence : RequestRule → Sentence CertReq RequestValues
 request_sentence rules.SubjectRdnEmpty =
     must (codes "subject_rdn_empty") (codes "4.1.2.6") (codes "certificationRequestInfo.subject")
     (λ r v. has_empty_rdn r.info.subject)
+request_sentence rules.SubjectRdnTypeRepeated =
+    must_of (codes "X.501") (codes "subject_rdn_type_repeated") (codes "9.3") (codes "certificationRequestInfo.subject")
+    (λ r v. not v.is_subject_distinct)
 request_sentence rules.SubjectCountryNameInvalid =
     must (codes "subject_country_name_invalid") (codes "A.1") (codes "certificationRequestInfo.subject")
     (λ r v. has_no_country r.info.subject)
@@ -156,6 +165,9 @@ request_sentence rules.SubjectTextCharacters =
 request_sentence rules.SubjectTextSize =
     must (codes "subject_text_size") (codes "A.1") (codes "certificationRequestInfo.subject")
     (λ r v. has_faulty_text Size r.info.subject)
+request_sentence rules.SubjectDomainComponentInvalid =
+    must_of (codes "RFC 4519") (codes "subject_domain_component_invalid") (codes "2.4") (codes "certificationRequestInfo.subject")
+    (λ r v. has_faulty_text Label r.info.subject)
 request_sentence rules.SubjectEmptyWithoutAltName =
     must (codes "subject_empty_without_alt_name") (codes "4.1.2.6") (codes "certificationRequestInfo.subject")
     (λ r v. is_empty r.info.subject && not (has (id_ce 17) (requested_extensions v.requested)))
@@ -212,7 +224,11 @@ request_name_rules =
     ∷ names.SubjectAltNameMailboxInvalid
     ∷ names.SubjectAltNameUriRelative
     ∷ names.SubjectAltNameUriInvalid
-    ∷ names.SubjectAltNameUriHostInvalid ∷ []
+    ∷ names.SubjectAltNameUriHostInvalid
+    ∷ names.SubjectAltNameDirectoryNameInvalid
+    ∷ names.SubjectAltNameSrvNameInvalid
+    ∷ names.SubjectAltNameSmtpUtf8MailboxInvalid
+    ∷ names.SubjectAltNameNotJudged ∷ []
 
 abbrev pub request_name_sentence : RequestNameRule → Sentence CertReq RequestValues
 request_name_sentence names.SubjectAltNameEmpty =
@@ -239,3 +255,15 @@ request_name_sentence names.SubjectAltNameUriInvalid =
 request_name_sentence names.SubjectAltNameUriHostInvalid =
     must (codes "subject_alt_name_uri_host_invalid") (codes "4.2.1.6") (codes "certificationRequestInfo.attributes.extensionRequest.subjectAltName")
     (λ r v. passes (λ s. list_any is_at_other_host s.0) v.subject_alt_name)
+request_name_sentence names.SubjectAltNameDirectoryNameInvalid =
+    must (codes "subject_alt_name_directory_name_invalid") (codes "4.2.1.6") (codes "certificationRequestInfo.attributes.extensionRequest.subjectAltName")
+    (λ r v. passes (λ s. list_any is_odd_directory_name s.0) v.subject_alt_name)
+request_name_sentence names.SubjectAltNameSrvNameInvalid =
+    must_of (codes "RFC 4985") (codes "subject_alt_name_srv_name_invalid") (codes "2") (codes "certificationRequestInfo.attributes.extensionRequest.subjectAltName")
+    (λ r v. passes (λ s. list_any is_no_srv_name s.0) v.subject_alt_name)
+request_name_sentence names.SubjectAltNameSmtpUtf8MailboxInvalid =
+    must_of (codes "RFC 9598") (codes "subject_alt_name_smtp_utf8_mailbox_invalid") (codes "3") (codes "certificationRequestInfo.attributes.extensionRequest.subjectAltName")
+    (λ r v. passes (λ s. list_any is_no_smtp_mailbox s.0) v.subject_alt_name)
+request_name_sentence names.SubjectAltNameNotJudged =
+    not_judged (codes "subject_alt_name_not_read") (codes "4.2.1.6") (codes "certificationRequestInfo.attributes.extensionRequest.subjectAltName")
+    (λ r v. is_unjudged (id_ce 17) Names (requested_extensions v.requested) (is_some v.subject_alt_name))

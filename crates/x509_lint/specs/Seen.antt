@@ -10,6 +10,7 @@ use Rattle.x509_cert.specs.declared.request.cert_req.CertReq.{CertReq}
 use Rattle.x509_ext.specs.Identifiers.{id_ce, id_pkix}
 use Rattle.x509_ext.specs.LookUp.{members, with_oid}
 use Rattle.x509_ext.specs.declared.extension.Extension.{Extension}
+use Rattle.x509_lint.specs.OtherTypes.{ocsp_no_check, precertificate_poison}
 use Rattle.x509_lint.specs.Request.{requested_extensions, requested_of}
 use Rattle.x509_lint.specs.Words.{Certificate, Crl, crl_extensions_of}
 use Rattle.x509_lint.specs.declared.rule.Rule.{Rule}
@@ -34,7 +35,7 @@ first_seen (e ∷ extensions) = shortened e.extn_value
 abbrev pub value_seen : List ℕ → List Extension → List ℕ
 value_seen oid extensions = first_seen (with_oid oid extensions)
 
--- the OID of a type of extension (RFC 5280 4.2, 5.2)
+-- the OID of a type of extension (RFC 5280 4.2, 5.2, and what OtherTypes.antt names)
 abbrev pub extension_oid : ExtensionKind → List ℕ
 extension_oid kinds.AuthorityKeyIdentifier = id_ce 35
 extension_oid kinds.SubjectKeyIdentifier = id_ce 14
@@ -54,6 +55,10 @@ extension_oid kinds.PolicyConstraints = id_ce 36
 extension_oid kinds.InhibitAnyPolicy = id_ce 54
 extension_oid kinds.CrlDistributionPoints = id_ce 31
 extension_oid kinds.FreshestCrl = id_ce 46
+extension_oid kinds.OcspNoCheck = ocsp_no_check
+extension_oid kinds.PrecertificatePoison = precertificate_poison
+extension_oid kinds.TlsFeatures = id_pkix 1 24
+extension_oid kinds.QcStatements = id_pkix 1 3
 
 abbrev pub crl_extension_oid : CrlExtensionKind → List ℕ
 crl_extension_oid crl_kinds.AuthorityKeyIdentifier = id_ce 35

@@ -4,9 +4,10 @@ use Rattle.std.specs.List.{list_all, list_any}
 use Rattle.std.specs.Str.{chars, is_utf8}
 use Rattle.x509_der.specs.declared.tag.Tag.{Tag}
 use Rattle.x509_der.specs.declared.tag.Tag.TheVariants.{BmpString, Ia5String, NumericString, PrintableString, TeletexString, UniversalString, Utf8String, VisibleString}
+use Rattle.x509_host.specs.Host.{are_ldh_labels}
 use Rattle.x509_name.specs.declared.attr.type_and_value.AttributeTypeAndValue.{AttributeTypeAndValue}
 use Rattle.x509_lint.specs.declared.texts.TextFault.{TextFault}
-use Rattle.x509_lint.specs.declared.texts.TextFault.TheVariants.{OtherType, OldType, OtherCharacter, Size}
+use Rattle.x509_lint.specs.declared.texts.TextFault.TheVariants.{OtherType, OldType, OtherCharacter, Size, Label}
 
 -- ---- types of attributes
 
@@ -133,6 +134,16 @@ has_odd_size a =
     || ((is_among numbers_to_32768 a.oid && is_outside 32768 (char_count a.value.tag a.value.value))
     || (bytes_eq a.oid email_address && is_outside 255 (char_count a.value.tag a.value.value))))
 
+-- ---- labels
+
+-- one label of a domain name, as that of a host: letters, digits and hyphens (RFC 4519 2.4)
+abbrev pub is_label : List ℕ → Bool
+is_label octets = are_ldh_labels octets && not (list_any (λ octet. octet == 46) octets)
+
+-- a domainComponent that is another text
+abbrev pub has_no_label : AttributeTypeAndValue → Bool
+has_no_label a = bytes_eq a.oid domain_component && not (is_label a.value.value)
+
 -- ---- what is wrong with the text of an attribute
 
 abbrev pub is_faulty_text : TextFault → AttributeTypeAndValue → Bool
@@ -140,6 +151,7 @@ is_faulty_text OtherType a = has_other_type a
 is_faulty_text OldType a = has_old_type a
 is_faulty_text OtherCharacter a = not (is_text a.value.tag a.value.value)
 is_faulty_text Size a = has_odd_size a
+is_faulty_text Label a = has_no_label a
 
 -- an attribute of the name has the fault
 abbrev pub has_faulty_text : TextFault → List (List AttributeTypeAndValue) → Bool

@@ -168,11 +168,24 @@ abbrev pub is_hierarchy : List ℕ → Option (List ℕ) → Bool
 is_hierarchy hierarchy None = is_spelled (codes ":@/") hierarchy
 is_hierarchy hierarchy (Some octets) = is_authority (before 47 octets) && is_spelled (codes ":@/") (behind 47 octets)
 
--- a scheme, an authority and a path, a query, a fragment
+-- an authority and a path, a query, a fragment
+abbrev pub are_parts : List ℕ → Bool
+are_parts text =
+    is_hierarchy (hierarchy_of text) (behind_slashes (hierarchy_of text))
+    && (is_spelled (codes ":@/?") (query_of text) && is_spelled (codes ":@/?") (fragment_of text))
+
+-- a scheme with something behind it (RFC 5280 4.2.1.6), and these
 abbrev pub is_uri : List ℕ → Bool
-is_uri text =
-    is_absolute text && (is_hierarchy (hierarchy_of text) (behind_slashes (hierarchy_of text))
-    && (is_spelled (codes ":@/?") (query_of text) && is_spelled (codes ":@/?") (fragment_of text)))
+is_uri text = is_absolute text && are_parts text
+
+-- a scheme: a letter, and octets of a scheme
+abbrev pub is_scheme : List ℕ → Bool
+is_scheme [] = false
+is_scheme (first ∷ octets) = is_ascii_alphabetic first && list_all is_scheme_octet octets
+
+-- a scheme, a colon, and these; a path may be empty, so nothing need be behind the colon
+abbrev pub is_any_uri : List ℕ → Bool
+is_any_uri text = contains 58 text && (is_scheme (before 58 text) && are_parts text)
 
 -- ---- hosts (RFC 5280 4.2.1.6)
 

@@ -24,10 +24,11 @@ use Rattle.x509_ext.specs.declared.pkix.policy_information.PolicyInformation.{Po
 use Rattle.x509_ext.specs.declared.pkix.policy_mapping.PolicyMapping.{PolicyMapping}
 use Rattle.x509_ext.specs.declared.pkix.policy_mapping.PolicyMappings.{PolicyMappings}
 use Rattle.x509_der.specs.Set.{AreDistinct}
+use Rattle.x509_name.specs.declared.attr.type_and_value.AttributeTypeAndValue.{AttributeTypeAndValue}
 use Rattle.x509_ext.specs.PolicyMapping.{policy_mappings}
 use Rattle.x509_lint.specs.BasicConstraints.{any_basic_constraints}
 use Rattle.x509_lint.specs.Notices.{has_faulty_notice}
-use Rattle.x509_lint.specs.declared.notices.NoticeFault.TheVariants.{Long, NoText, OldType, Ia5Type, Control, Reference, Unnormalized}
+use Rattle.x509_lint.specs.declared.notices.NoticeFault.TheVariants.{Long, NoText, OldType, Ia5Type, Control, Reference, Unnormalized, Unread}
 use Rattle.x509_lint.specs.SkipCerts.{any_policy_constraints}
 use Rattle.x509_lint.specs.PublicKey.{numbers}
 use Rattle.x509_lint.specs.Read.{AreExtensionsRead, IsCrlRead}
@@ -64,11 +65,21 @@ is_unasserted policies mapping = not (list_any (λ (p : PolicyInformation). byte
 abbrev pub has_unasserted : List PolicyInformation → Option PolicyMappings → Bool
 has_unasserted policies mappings = passes (λ m. list_any (is_unasserted policies) m.0) mappings
 
+-- ---- names
+
+abbrev pub rdn_types : List AttributeTypeAndValue → List (List ℕ)
+rdn_types rdn = map (λ (a : AttributeTypeAndValue). a.oid) rdn
+
+-- no two attributes of the RDN are of one type (X.501 9.3)
+unfoldable pub HasDistinctTypes : List AttributeTypeAndValue → Type 0
+HasDistinctTypes rdn = AreDistinct (rdn_types rdn)
+
 -- ---- values of extensions
 
 abbrev pub AreAuthorityValues : List Extension → AuthorityValues → Type 0
 AreAuthorityValues extensions v =
     IsValue any_basic_constraints (id_ce 19) extensions v.basic_constraints × IsValue key_usage (id_ce 15) extensions v.key_usage
+    × IsValue name_constraints (id_ce 30) extensions v.name_constraints
 
 abbrev pub AreKeyValues : List Extension → KeyValues → Type 0
 AreKeyValues extensions v =
@@ -92,6 +103,7 @@ ArePolicyValues extensions v =
     × (v.has_control ≡ has_faulty_notice Control v.certificate_policies)
     × (v.has_reference ≡ has_faulty_notice Reference v.certificate_policies)
     × (v.has_unnormalized ≡ has_faulty_notice Unnormalized v.certificate_policies)
+    × (v.has_unread_notice ≡ has_faulty_notice Unread v.certificate_policies)
     × (v.has_unasserted_mapping ≡ has_unasserted (policies_of v.certificate_policies) v.policy_mappings)
 
 abbrev pub AreConstraintValues : List Extension → ConstraintValues → Type 0
@@ -132,6 +144,8 @@ AreCertificateFacts c facts =
     (IsTrue facts.algorithms_differ ↔ (c.tbs_certificate.signature ≢ c.signature_algorithm))
     × (IsTrue facts.is_repeated ↔ IsRepeated (extensions_of c))
     × AreExtensionsRead (extensions_of c) facts.read
+    × (IsTrue facts.is_issuer_distinct ↔ All HasDistinctTypes c.tbs_certificate.issuer)
+    × (IsTrue facts.is_subject_distinct ↔ All HasDistinctTypes c.tbs_certificate.subject)
 
 abbrev pub AreCrlFacts : Crl → CrlFacts → Type 0
 AreCrlFacts l facts =
@@ -140,6 +154,7 @@ AreCrlFacts l facts =
     × IsCrlRead (crl_extensions_of l) facts.read
     × (IsTrue facts.are_serials_distinct ↔ AreDistinct (serials (entries l.tbs_cert_list.revoked_certificates)))
     × (IsTrue facts.are_entries_distinct ↔ All IsDistinct (entries l.tbs_cert_list.revoked_certificates))
+    × (IsTrue facts.is_issuer_distinct ↔ All HasDistinctTypes l.tbs_cert_list.issuer)
 
 -- ---- all of it
 

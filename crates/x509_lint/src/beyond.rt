@@ -1,13 +1,15 @@
 //! What RFC 5280 allows and the types of this library can't hold.
 
-ghost use Rattle.std.specs.List.{slice_get};
+ghost use Rattle.std.specs.List.{list_any, slice_get};
 ghost use Rattle.std.specs.Prelude.{◌≡◌, ◌&&◌, ◌==◌, true};
 ghost use Rattle.x509_der.specs.ObjectIdentifier.{is_object_identifier};
 ghost use Rattle.x509_lint.specs.Beyond as grammar;
-ghost use Rattle.x509_lint.specs.Words.{passes};
+ghost use Rattle.x509_lint.specs.Words.{is_of, passes};
 
+use crate::extensions::is_of;
 use crate::passes;
-use x509_der::{ObjectIdentifier, split_element};
+use x509_der::{AssociatedOid, ObjectIdentifier, split_element};
+use x509_ext::Extension;
 
 /// The most octets of an OID's content that [`ObjectIdentifier`] holds.
 const MAX_OCTETS: usize = 39;
@@ -120,4 +122,30 @@ pub(crate) fn has_beyond(beyond: Beyond, mut octets: &[u8]) -> bool
         octets = rest;
     }
     false
+}
+
+/// Whether the extension has the OID of the type, and something that the type can't hold.
+fn is_beyond_type<T: AssociatedOid>(beyond: Beyond, extension: &Extension) -> bool
+    ensures { result ≡ (is_of T.OID extension.now && grammar.has_beyond beyond extension.now.extn_value) }
+{
+    is_of::<T>(extension) && has_beyond(beyond, extension.extn_value.as_bytes())
+}
+
+fn are_beyond_type<T: AssociatedOid>(beyond: Beyond, extensions: &[Extension]) -> bool
+    ensures { result ≡ list_any (λ e. is_of T.OID e && grammar.has_beyond beyond e.extn_value) extensions.now }
+{
+    extensions
+        .iter()
+        .any(|extension| is_beyond_type::<T>(beyond, extension))
+}
+
+/// Whether no value of the type is read, and an extension of it has something that can't be held.
+pub(crate) fn is_unjudged<T: AssociatedOid>(
+    beyond: Beyond,
+    extensions: &[Extension],
+    is_read: bool,
+) -> bool
+    ensures { result ≡ grammar.is_unjudged T.OID beyond extensions.now is_read }
+{
+    !is_read && are_beyond_type::<T>(beyond, extensions)
 }

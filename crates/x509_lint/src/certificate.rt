@@ -178,7 +178,7 @@ fn add_public_key(
     Ok(())
 }
 
-/// The rules of RFC 5280 4.1 and 4.2, and of the standards on keys and signatures, that the certificate breaks, in the
+/// The rules of RFC 5280 4.1 and 4.2, and of other standards on keys, signatures, names and extensions, that the certificate breaks, in the
 /// order of `certificate_rules` in `specs/Rules.antt`: those on its fields, on its names, on the list of its extensions
 /// and on which of these are critical, then those on what extensions say, in each of these by section; last those on
 /// its signature's algorithm and on its public key. The profile [`Raw`] lets in serial numbers of any length.

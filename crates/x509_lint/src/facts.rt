@@ -1,13 +1,14 @@
 //! What is asked of an object once: what takes memory, or compares values as a whole.
 
+ghost use Rattle.std.specs.List.{All};
 ghost use Rattle.std.specs.Prelude.{◌≡◌, ◌≢◌, ◌↔◌, IsTrue, IfOk, IfErr};
 ghost use Rattle.x509_der.specs.declared.error.ErrorKind.TheVariants.{Memory};
-ghost use Rattle.x509_lint.specs.Values.{AreCertificateFacts, AreCrlFacts};
+ghost use Rattle.x509_lint.specs.Values.{AreCertificateFacts, AreCrlFacts, HasDistinctTypes};
 
 use crate::entries::are_entries_distinct;
 use crate::extensions::extensions_of;
 use crate::read::{CrlRead, ExtensionsRead, crl_read, extensions_read};
-use crate::repeats::are_serials_distinct;
+use crate::repeats::{are_serials_distinct, is_distinct_name};
 use std::alloc::Global;
 use x509_base::Raw;
 use x509_base::laws::equality_of_keys_is_exact;
@@ -27,6 +28,12 @@ pub(crate) struct CertificateFacts {
 
     /// Which types of extensions are read.
     pub(crate) read: ExtensionsRead,
+
+    /// No RDN of the issuer has two attributes of one type.
+    pub(crate) is_issuer_distinct: bool,
+
+    /// No RDN of the subject has.
+    pub(crate) is_subject_distinct: bool,
 }
 
 /// What is asked of a CRL once.
@@ -46,6 +53,9 @@ pub(crate) struct CrlFacts {
 
     /// No two extensions of one entry have one OID.
     pub(crate) are_entries_distinct: bool,
+
+    /// No RDN of the issuer has two attributes of one type.
+    pub(crate) is_issuer_distinct: bool,
 }
 
 fn do_algorithms_differ(certificate: &CertificateInner<Raw>) -> bool
@@ -62,6 +72,20 @@ fn do_crl_algorithms_differ(crl: &CertificateList<Raw>) -> bool
     crl.tbs_cert_list.signature != crl.signature_algorithm
 }
 
+fn has_distinct_issuer(alloc: Global, certificate: &CertificateInner<Raw>) -> Result<bool, Error>
+    ensures ok { IfOk result (λ b. IsTrue b ↔ All HasDistinctTypes certificate.now.tbs_certificate.issuer) }
+    ensures err { IfErr result (λ e. e.kind ≡ Memory) }
+{
+    is_distinct_name(alloc, certificate.tbs_certificate().issuer())
+}
+
+fn has_distinct_subject(alloc: Global, certificate: &CertificateInner<Raw>) -> Result<bool, Error>
+    ensures ok { IfOk result (λ b. IsTrue b ↔ All HasDistinctTypes certificate.now.tbs_certificate.subject) }
+    ensures err { IfErr result (λ e. e.kind ≡ Memory) }
+{
+    is_distinct_name(alloc, certificate.tbs_certificate().subject())
+}
+
 /// The facts of a certificate.
 pub(crate) fn certificate_facts(
     alloc: Global,
@@ -74,10 +98,14 @@ pub(crate) fn certificate_facts(
     let algorithms_differ = do_algorithms_differ(certificate);
     let is_repeated = has_repeated_extension(alloc, extensions)?;
     let read = extensions_read(alloc, extensions)?;
+    let is_issuer_distinct = has_distinct_issuer(alloc, certificate)?;
+    let is_subject_distinct = has_distinct_subject(alloc, certificate)?;
     Ok(CertificateFacts {
         algorithms_differ,
         is_repeated,
         read,
+        is_issuer_distinct,
+        is_subject_distinct,
     })
 }
 
@@ -92,11 +120,13 @@ pub(crate) fn crl_facts(alloc: Global, crl: &CertificateList<Raw>) -> Result<Crl
     let read = crl_read(alloc, extensions)?;
     let are_serials_distinct = are_serials_distinct(alloc, crl.tbs_cert_list.entries())?;
     let are_entries_distinct = are_entries_distinct(alloc, crl.tbs_cert_list.entries())?;
+    let is_issuer_distinct = is_distinct_name(alloc, &crl.tbs_cert_list.issuer)?;
     Ok(CrlFacts {
         algorithms_differ,
         is_repeated,
         read,
         are_serials_distinct,
         are_entries_distinct,
+        is_issuer_distinct,
     })
 }

@@ -2,20 +2,29 @@
 
 ghost use Rattle.std.specs.Char.{is_ascii_alphabetic};
 ghost use Rattle.std.specs.List.{list_all, list_any};
-ghost use Rattle.std.specs.Prelude.{◌≡◌, ◌==◌, ◌/◌, drop, false, length};
-ghost use Rattle.x509_lint.specs.Alternative.{atom_marks, begins_with, is_at_domain, is_at_other_host, is_atom_octet, is_domain, is_empty_name, is_mailbox, is_mailbox_behind, is_no_address, is_no_dns_name, is_no_mailbox, is_no_uri, is_printed, is_quoted_behind, is_relative, is_rfc822_name};
+ghost use Rattle.std.specs.Prelude.{◌≡◌, ◌||◌, ◌==◌, ◌/◌, drop, false, length, nat_le};
+ghost use Rattle.x509_lint.specs.Alternative.{atom_marks, begins_with, is_at_domain, is_at_other_host, is_atom_octet, is_domain, is_empty_name, is_mailbox, is_mailbox_behind, is_no_address, is_no_dns_name, is_no_mailbox, is_no_smtp_mailbox, is_no_srv_name, is_no_uri, is_odd_directory_name, is_printed, is_quoted_behind, is_relative, is_rfc822_name, is_service_of_domain, is_smtp_mailbox, is_srv_name, is_wide_mailbox};
 ghost use Rattle.x509_lint.specs.Constraint.{behind_dot, has_fault, has_odd_mask, is_mask, is_no_host, is_no_range, is_other_form, is_partial, is_range};
 ghost use Rattle.x509_lint.specs.Name.{has_empty_rdn, has_no_country, is_country, is_no_country, is_printable};
+ghost use Rattle.x509_lint.specs.Text as attribute_texts;
 ghost use Rattle.x509_lint.specs.Words.{is_empty, passes};
+ghost use Rattle.x509_lint.specs.declared.texts.TextFault.TheVariants.{Label, OtherCharacter, OtherType, Size};
 
 use crate::passes;
-use crate::uris::{has_other_host, is_absolute, is_uri};
-use x509_der::{Any, Tag};
+use crate::texts::{TextFault, has_faulty_text, is_ia5, is_ia5_string, is_utf8, is_utf8_string};
+use crate::uris::{before, behind, contains, has_other_host, is_absolute, is_uri};
+use x509_der::{Any, ObjectIdentifier, Tag, oid};
 use x509_ext::pkix::name::GeneralName;
 use x509_host::{are_ldh_labels, is_preferred_name};
 use x509_name::attr::AttributeTypeAndValue;
 use x509_name::attr::attribute_types::COUNTRY_NAME;
 use x509_name::name::{Name, RdnSequence, RelativeDistinguishedName};
+
+/// id-on-dnsSRV, 1.3.6.1.5.5.7.8.7 (RFC 4985 2).
+const SRV_NAME: ObjectIdentifier = oid!(0x2B, 0x06, 0x01, 0x05, 0x05, 0x07, 8, 7);
+
+/// id-on-SmtpUTF8Mailbox, 1.3.6.1.5.5.7.8.9 (RFC 9598 3).
+const SMTP_MAILBOX: ObjectIdentifier = oid!(0x2B, 0x06, 0x01, 0x05, 0x05, 0x07, 8, 9);
 
 fn is_printable(tag: Tag) -> bool
     ensures { result ≡ is_printable tag }
@@ -399,6 +408,90 @@ fn is_at_other_host(name: &GeneralName) -> bool
     }
 }
 
+fn has_odd_text(name: &Name) -> bool
+    ensures { result ≡ (attribute_texts.has_faulty_text OtherType name.now || (attribute_texts.has_faulty_text OtherCharacter name.now || (attribute_texts.has_faulty_text Size name.now || attribute_texts.has_faulty_text Label name.now))) }
+{
+    has_faulty_text(TextFault::OtherType, name)
+        || (has_faulty_text(TextFault::OtherCharacter, name)
+            || (has_faulty_text(TextFault::Size, name) || has_faulty_text(TextFault::Label, name)))
+}
+
+/// Whether the name is a directoryName that isn't encoded as an issuer has to be.
+fn is_odd_directory_name(name: &GeneralName) -> bool
+    ensures { result ≡ is_odd_directory_name name.now }
+{
+    match name {
+        GeneralName::DirectoryName(name) => {
+            has_empty_rdn(name) || (has_no_country(name) || has_odd_text(name))
+        }
+        _ => false,
+    }
+}
+
+/// Whether the text is an underscore, a service, a dot, and a domain name.
+fn is_service_of_domain(text: &[u8]) -> bool
+    ensures { result ≡ is_service_of_domain text.now }
+{
+    match text {
+        [first, rest @ ..] => {
+            *first == b'_'
+                && (!before(b'.', rest).is_empty() && is_preferred_name(behind(b'.', rest)))
+        }
+        [] => false,
+    }
+}
+
+fn is_srv_name(value: &Any) -> bool
+    ensures { result ≡ is_srv_name value.now }
+{
+    is_ia5_string(value.tag()) && (is_ia5(value.value()) && is_service_of_domain(value.value()))
+}
+
+/// Whether the name is in the place of a SRVName, and isn't one.
+fn is_no_srv_name(name: &GeneralName) -> bool
+    ensures { result ≡ is_no_srv_name name.now }
+{
+    match name {
+        GeneralName::OtherName(name) => name.type_id == SRV_NAME && !is_srv_name(&name.value),
+        _ => false,
+    }
+}
+
+fn has_wide(octets: &[u8]) -> bool
+    ensures { result ≡ list_any (λ octet. nat_le 128 octet) octets.now }
+{
+    octets.iter().any(|octet| *octet >= 128)
+}
+
+/// Whether the text is a local part with a character above U+007F, the sign @, and a domain without such.
+fn is_wide_mailbox(text: &[u8]) -> bool
+    ensures { result ≡ is_wide_mailbox text.now }
+{
+    if begins_with(b'"', text) {
+        contains(b'@', text)
+    } else {
+        has_wide(before(b'@', text)) && is_domain(behind(b'@', text))
+    }
+}
+
+fn is_smtp_mailbox(value: &Any) -> bool
+    ensures { result ≡ is_smtp_mailbox value.now }
+{
+    is_utf8_string(value.tag()) && (is_utf8(value.value()) && is_wide_mailbox(value.value()))
+}
+
+/// Whether the name is in the place of a SmtpUTF8Mailbox, and isn't one.
+fn is_no_smtp_mailbox(name: &GeneralName) -> bool
+    ensures { result ≡ is_no_smtp_mailbox name.now }
+{
+    match name {
+        GeneralName::OtherName(name) => {
+            name.type_id == SMTP_MAILBOX && !is_smtp_mailbox(&name.value)
+        }
+        _ => false,
+    }
+}
+
 pub(crate) fn has_empty_name(names: &[GeneralName]) -> bool
     ensures { result ≡ list_any is_empty_name names.now }
 {
@@ -439,4 +532,22 @@ pub(crate) fn has_uri_at_other_host(names: &[GeneralName]) -> bool
     ensures { result ≡ list_any is_at_other_host names.now }
 {
     names.iter().any(is_at_other_host)
+}
+
+pub(crate) fn has_odd_directory_name(names: &[GeneralName]) -> bool
+    ensures { result ≡ list_any is_odd_directory_name names.now }
+{
+    names.iter().any(is_odd_directory_name)
+}
+
+pub(crate) fn has_no_srv_name(names: &[GeneralName]) -> bool
+    ensures { result ≡ list_any is_no_srv_name names.now }
+{
+    names.iter().any(is_no_srv_name)
+}
+
+pub(crate) fn has_no_smtp_mailbox(names: &[GeneralName]) -> bool
+    ensures { result ≡ list_any is_no_smtp_mailbox names.now }
+{
+    names.iter().any(is_no_smtp_mailbox)
 }

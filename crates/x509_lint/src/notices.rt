@@ -63,6 +63,9 @@ pub(crate) enum NoticeFault {
 
     /// Its explicit text is a UTF8String that isn't in Unicode Normalization Form C.
     Unnormalized,
+
+    /// It isn't a user notice.
+    Unread,
 }
 
 fn is_old_text(text: &DisplayText) -> bool
@@ -151,6 +154,7 @@ fn is_faulty_text(alloc: Global, fault: NoticeFault, text: &DisplayText) -> Resu
         NoticeFault::Control => Ok(has_control(text)),
         NoticeFault::Reference => Ok(false),
         NoticeFault::Unnormalized => is_unnormalized(alloc, text),
+        NoticeFault::Unread => Ok(false),
     }
 }
 
@@ -188,7 +192,16 @@ fn is_reference(fault: NoticeFault) -> bool
     }
 }
 
-/// Whether an element is the encoding of a notice with the fault.
+fn is_unread(fault: NoticeFault) -> bool
+    ensures { result ≡ notices.is_unread fault }
+{
+    match fault {
+        NoticeFault::Unread => true,
+        _ => false,
+    }
+}
+
+/// Whether an element is the encoding of a notice with the fault, or of none where that is the fault.
 #[tactic(auto, unfolding(crate::specs::Notices::is_faulty_element))]
 fn is_faulty_element(alloc: Global, fault: NoticeFault, element: &Any) -> Result<bool, Error>
     ensures ok { IfOk result (λ is_faulty. is_faulty ≡ notices.is_faulty_element fault element.now) }
@@ -198,7 +211,7 @@ fn is_faulty_element(alloc: Global, fault: NoticeFault, element: &Any) -> Result
         Ok(notice) => Ok(is_faulty_notice(alloc, fault, &notice)?),
         Err(e) => match e.kind() {
             ErrorKind::Memory => Err(ErrorKind::Memory.into()),
-            _ => Ok(false),
+            _ => Ok(is_unread(fault)),
         },
     }
 }
@@ -217,7 +230,7 @@ fn is_faulty_qualifier(
     }
     match &qualifier.qualifier {
         Some(element) => is_faulty_element(alloc, fault, element),
-        None => Ok(false),
+        None => Ok(is_unread(fault)),
     }
 }
 

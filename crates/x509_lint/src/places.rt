@@ -5,8 +5,9 @@ ghost use Rattle.std.specs.Prelude.{◌≡◌, ◌&&◌, bytes_eq, not};
 ghost use Rattle.x509_lint.specs.Place as place;
 ghost use Rattle.x509_lint.specs.Words.{passes};
 
+use crate::extensions::is_empty_sequence;
 use crate::passes;
-use crate::uris::{has_attributes, has_dn, has_ldap_host, has_one_attribute};
+use crate::uris::{has_attributes, has_dn, has_ldap_host, has_one_attribute, is_any_uri};
 use bitflags::Flags;
 use x509_der::{ObjectIdentifier, oid};
 use x509_ext::pkix::AccessDescription;
@@ -19,6 +20,9 @@ pub(crate) const CA_ISSUERS: ObjectIdentifier = oid!(0x2B, 0x06, 0x01, 0x05, 0x0
 
 /// id-ad-caRepository, 1.3.6.1.5.5.7.48.5 (RFC 5280 4.2.2.2).
 pub(crate) const CA_REPOSITORY: ObjectIdentifier = oid!(0x2B, 0x06, 0x01, 0x05, 0x05, 0x07, 48, 5);
+
+/// id-ad-ocsp, 1.3.6.1.5.5.7.48.1 (RFC 6960 3.1).
+pub(crate) const OCSP: ObjectIdentifier = oid!(0x2B, 0x06, 0x01, 0x05, 0x05, 0x07, 48, 1);
 
 /// keyCompromise (1) to aACompromise (8), as a set of bits (RFC 5280 4.2.1.13).
 const ALL_REASONS: u16 = 510;
@@ -46,6 +50,12 @@ pub(crate) enum PointFault {
 
     /// An LDAP URI of its name has no host.
     LdapWithoutHost,
+
+    /// A list of names, its own or its cRLIssuer's, is there and has none.
+    NoNames,
+
+    /// A URI of its name isn't one.
+    UriInvalid,
 }
 
 fn is_letter_at(text: &[u8], at: usize, upper: u8, lower: u8) -> bool
@@ -136,6 +146,32 @@ fn is_without_host(name: &GeneralName) -> bool
     }
 }
 
+/// Whether the name is in the place of a URI, and isn't one.
+fn is_other_uri(name: &GeneralName) -> bool
+    ensures { result ≡ place.is_other_uri name.now }
+{
+    match name {
+        GeneralName::UniformResourceIdentifier(text) => !is_any_uri(text.as_str().as_bytes()),
+        _ => false,
+    }
+}
+
+fn are_other_uris(names: &[GeneralName]) -> bool
+    ensures { result ≡ list_any place.is_other_uri names.now }
+{
+    names.iter().any(is_other_uri)
+}
+
+/// Whether the name is in the form of a URI.
+fn is_uri_name(name: &GeneralName) -> bool
+    ensures { result ≡ place.is_uri_name name.now }
+{
+    match name {
+        GeneralName::UniformResourceIdentifier(_) => true,
+        _ => false,
+    }
+}
+
 fn have_incomplete_entry(names: &[GeneralName]) -> bool
     ensures { result ≡ list_any place.is_incomplete_entry names.now }
 {
@@ -164,6 +200,27 @@ fn has_entry_without_host(name: &Option<DistributionPointName>) -> bool
     match name {
         Some(DistributionPointName::FullName(names)) => are_without_host(names.as_slice()),
         Some(DistributionPointName::NameRelativeToCRLIssuer(_)) => false,
+        None => false,
+    }
+}
+
+fn has_uri_that_is_none(name: &Option<DistributionPointName>) -> bool
+    ensures { result ≡ passes (λ n. place.has_name place.is_other_uri n) name.now }
+{
+    match name {
+        Some(DistributionPointName::FullName(names)) => are_other_uris(names.as_slice()),
+        Some(DistributionPointName::NameRelativeToCRLIssuer(_)) => false,
+        None => false,
+    }
+}
+
+/// Whether the name is there, and has no general name or no attribute.
+fn has_no_names(name: &Option<DistributionPointName>) -> bool
+    ensures { result ≡ passes place.has_no_names name.now }
+{
+    match name {
+        Some(DistributionPointName::FullName(names)) => names.as_slice().is_empty(),
+        Some(DistributionPointName::NameRelativeToCRLIssuer(rdn)) => rdn.len() == 0,
         None => false,
     }
 }
@@ -218,6 +275,10 @@ fn is_faulty(fault: PointFault, point: &DistributionPoint) -> bool
         PointFault::ReasonsOrIssuer => point.reasons.is_some() || point.crl_issuer.is_some(),
         PointFault::LdapIncomplete => has_incomplete_entry(&point.distribution_point),
         PointFault::LdapWithoutHost => has_entry_without_host(&point.distribution_point),
+        PointFault::NoNames => {
+            has_no_names(&point.distribution_point) || is_empty_sequence(&point.crl_issuer)
+        }
+        PointFault::UriInvalid => has_uri_that_is_none(&point.distribution_point),
     }
 }
 
@@ -339,6 +400,36 @@ pub(crate) fn has_place_without_host(
     descriptions
         .iter()
         .any(|description| is_without_host_of(method, description))
+}
+
+fn is_uri_of(method: ObjectIdentifier, description: &AccessDescription) -> bool
+    ensures { result ≡ (bytes_eq description.now.access_method method && place.is_uri_name description.now.access_location) }
+{
+    description.access_method == method && is_uri_name(&description.access_location)
+}
+
+fn has_uri_of(method: ObjectIdentifier, descriptions: &[AccessDescription]) -> bool
+    ensures { result ≡ place.has_place place.is_uri_name method descriptions.now }
+{
+    descriptions
+        .iter()
+        .any(|description| is_uri_of(method, description))
+}
+
+/// Whether there are descriptions of the method, and none has a URI.
+pub(crate) fn lacks_any_uri(method: ObjectIdentifier, descriptions: &[AccessDescription]) -> bool
+    ensures { result ≡ place.lacks_any_uri method descriptions.now }
+{
+    has_method(method, descriptions) && !has_uri_of(method, descriptions)
+}
+
+/// Whether a description has something in the place of a URI that isn't one.
+pub(crate) fn has_other_uri(descriptions: &[AccessDescription]) -> bool
+    ensures { result ≡ list_any (λ d. place.is_other_uri d.access_location) descriptions.now }
+{
+    descriptions
+        .iter()
+        .any(|description| is_other_uri(&description.access_location))
 }
 
 fn is_other_among(method: ObjectIdentifier, descriptions: &[AccessDescription]) -> bool

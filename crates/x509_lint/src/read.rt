@@ -1,14 +1,15 @@
-//! Which types of extensions are right: the octets of each extension of the type are an encoding of the type that RFC 5280 has for its OID, or they have what this
-//! library can't hold.
+//! Which types of extensions are right: the octets of each extension of the type are an encoding of the type that RFC 5280 or another standard has for its OID, or they
+//! have what this library can't hold.
 
 ghost use Rattle.std.specs.List.{All};
 ghost use Rattle.std.specs.Prelude.{◌≡◌, ◌↔◌, IfErr, IfOk, IsTrue};
 ghost use Rattle.x509_der.specs.Form.{Spells};
 ghost use Rattle.x509_der.specs.declared.error.ErrorKind.TheVariants.{Memory};
-ghost use Rattle.x509_lint.specs.Read.{AreExtensionsRead, AreKeysRead, AreNamesRead, ArePoliciesRead, IsCrlRead, IsRight, IsWellFormedAs, is_crl_read, is_read};
+ghost use Rattle.x509_lint.specs.Read.{AreExtensionsRead, AreKeysRead, AreNamesRead, AreOthersRead, ArePoliciesRead, IsCrlRead, IsRight, IsWellFormedAs, is_crl_read, is_read};
 
 use crate::basic_constraints::AnyBasicConstraints;
 use crate::beyond::{Beyond, has_beyond};
+use crate::other_types::{OcspNoCheck, PrecertificatePoison, QcStatements, TlsFeatures, are_null};
 use crate::rule::{CrlExtensionKind, ExtensionKind};
 use crate::skip_certs::{AnyInhibitAnyPolicy, AnyPolicyConstraints};
 use std::alloc::Global;
@@ -54,12 +55,22 @@ pub(crate) struct PoliciesRead {
     pub(crate) freshest_crl: bool,
 }
 
+/// Which of the types that other standards have are read.
+#[derive(Clone, Copy)]
+pub(crate) struct OthersRead {
+    pub(crate) ocsp_no_check: bool,
+    pub(crate) precertificate_poison: bool,
+    pub(crate) tls_features: bool,
+    pub(crate) qc_statements: bool,
+}
+
 /// Which of the types that certificates have are read.
 #[derive(Clone, Copy)]
 pub(crate) struct ExtensionsRead {
     pub(crate) keys: KeysRead,
     pub(crate) names: NamesRead,
     pub(crate) policies: PoliciesRead,
+    pub(crate) others: OthersRead,
 }
 
 /// Which of the types that CRLs have are read.
@@ -205,6 +216,19 @@ fn policies_read(alloc: Global, extensions: &[Extension]) -> Result<PoliciesRead
     })
 }
 
+#[tactic(auto, unfolding(crate::specs::Read::AreOthersRead))]
+fn others_read(alloc: Global, extensions: &[Extension]) -> Result<OthersRead, Error>
+    ensures ok { IfOk result (AreOthersRead extensions.now) }
+    ensures err { IfErr result (λ e. e.kind ≡ Memory) }
+{
+    Ok(OthersRead {
+        ocsp_no_check: are_null::<OcspNoCheck>(extensions),
+        precertificate_poison: are_null::<PrecertificatePoison>(extensions),
+        tls_features: are_read::<TlsFeatures>(alloc, Beyond::Nothing, extensions)?,
+        qc_statements: are_read::<QcStatements>(alloc, Beyond::Identifiers, extensions)?,
+    })
+}
+
 /// Which of the types that certificates have are read.
 pub(crate) fn extensions_read(
     alloc: Global,
@@ -217,6 +241,7 @@ pub(crate) fn extensions_read(
         keys: keys_read(alloc, extensions)?,
         names: names_read(alloc, extensions)?,
         policies: policies_read(alloc, extensions)?,
+        others: others_read(alloc, extensions)?,
     })
 }
 
@@ -273,6 +298,10 @@ impl ExtensionsRead {
             ExtensionKind::InhibitAnyPolicy => self.policies.inhibit_any_policy,
             ExtensionKind::CrlDistributionPoints => self.policies.crl_distribution_points,
             ExtensionKind::FreshestCrl => self.policies.freshest_crl,
+            ExtensionKind::OcspNoCheck => self.others.ocsp_no_check,
+            ExtensionKind::PrecertificatePoison => self.others.precertificate_poison,
+            ExtensionKind::TlsFeatures => self.others.tls_features,
+            ExtensionKind::QcStatements => self.others.qc_statements,
         }
     }
 }

@@ -55,9 +55,9 @@ pub enum Rule {
     /// On the extensions of a certificate as a list.
     ExtensionList(ListRule),
 
-    /// The octets of an extension of the type aren't an encoding of the type that RFC 5280 has for its OID (RFC 5280 4.2, error). That isn't told of
-    /// octets that have what RFC 5280 allows and this library's decoder doesn't hold: an x400Address, and an OID of more than 39 octets or with a
-    /// number of 2^32 or more.
+    /// The octets of an extension of the type aren't an encoding of the type that RFC 5280 or another standard has for its OID (RFC 5280 4.2, error). That
+    /// isn't told of octets that have what RFC 5280 allows and this library's decoder doesn't hold: an x400Address, and an OID of more than 39 octets or
+    /// with a number of 2^32 or more; other rules tell that such an extension isn't judged.
     ExtensionMalformed(ExtensionKind),
 
     /// On which extensions of a certificate are critical.

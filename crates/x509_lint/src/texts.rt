@@ -8,6 +8,7 @@ ghost use Rattle.x509_lint.specs.Text as text;
 use crate::notices::count_chars;
 use crate::passes;
 use x509_der::Tag;
+use x509_host::are_ldh_labels;
 use x509_name::attr::AttributeTypeAndValue;
 use x509_name::attr::attribute_types::{DOMAIN_COMPONENT, EMAIL_ADDRESS};
 use x509_name::name::{Name, RdnSequence, RelativeDistinguishedName};
@@ -26,6 +27,9 @@ pub(crate) enum TextFault {
 
     /// It is empty, or longer than the upper bound of the attribute.
     Size,
+
+    /// It is that of a domainComponent, and isn't one label.
+    Label,
 }
 
 const DIRECTORY_NUMBERS: [u8; 12] = [3, 4, 7, 8, 10, 11, 12, 41, 42, 43, 44, 65];
@@ -69,7 +73,7 @@ fn is_printable_string(tag: Tag) -> bool
     }
 }
 
-fn is_ia5_string(tag: Tag) -> bool
+pub(crate) fn is_ia5_string(tag: Tag) -> bool
     ensures { result ≡ text.is_ia5_string tag }
 {
     match tag {
@@ -147,7 +151,7 @@ pub(crate) fn is_printable(octets: &[u8]) -> bool
     octets.iter().all(|octet| is_printable_octet(*octet))
 }
 
-fn is_ia5(octets: &[u8]) -> bool
+pub(crate) fn is_ia5(octets: &[u8]) -> bool
     ensures { result ≡ list_all (λ octet. nat_lt octet 128) octets.now }
 {
     octets.iter().all(|octet| *octet < 128)
@@ -178,7 +182,7 @@ fn utf8_text(octets: &[u8]) -> Option<&str>
     }
 }
 
-fn is_utf8(octets: &[u8]) -> bool
+pub(crate) fn is_utf8(octets: &[u8]) -> bool
     ensures { result ≡ is_utf8 octets.now }
 {
     passes!(utf8_text(octets), _ => true)
@@ -245,6 +249,26 @@ fn is_email(attribute: &AttributeTypeAndValue) -> bool
     attribute.oid == EMAIL_ADDRESS
 }
 
+fn has_dot(octets: &[u8]) -> bool
+    ensures { result ≡ list_any (λ octet. octet == 46) octets.now }
+{
+    octets.iter().any(|octet| *octet == b'.')
+}
+
+/// Whether the octets are one label of a domain name.
+fn is_label(octets: &[u8]) -> bool
+    ensures { result ≡ text.is_label octets.now }
+{
+    are_ldh_labels(octets) && !has_dot(octets)
+}
+
+/// Whether the attribute is a domainComponent that isn't one label.
+fn has_no_label(attribute: &AttributeTypeAndValue) -> bool
+    ensures { result ≡ text.has_no_label attribute.now }
+{
+    attribute.oid == DOMAIN_COMPONENT && !is_label(attribute.value.value())
+}
+
 fn is_faulty_text(fault: TextFault, attribute: &AttributeTypeAndValue) -> bool
     ensures { result ≡ text.is_faulty_text fault attribute.now }
 {
@@ -253,6 +277,7 @@ fn is_faulty_text(fault: TextFault, attribute: &AttributeTypeAndValue) -> bool
         TextFault::OldType => has_old_type(attribute),
         TextFault::OtherCharacter => !is_text(attribute.value.tag(), attribute.value.value()),
         TextFault::Size => has_odd_size(attribute),
+        TextFault::Label => has_no_label(attribute),
     }
 }
 

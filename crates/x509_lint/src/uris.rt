@@ -109,7 +109,7 @@ fn is_spelled(marks: &[u8], mut text: &[u8]) -> bool
     true
 }
 
-fn contains(mark: u8, text: &[u8]) -> bool
+pub(crate) fn contains(mark: u8, text: &[u8]) -> bool
     ensures { result ≡ grammar.contains mark text.now }
 {
     text.iter().any(|octet| *octet == mark)
@@ -123,7 +123,7 @@ fn place_of(mark: u8, text: &[u8]) -> Option<usize>
 }
 
 /// What stands before the first such mark, or the whole.
-fn before(mark: u8, text: &[u8]) -> &[u8]
+pub(crate) fn before(mark: u8, text: &[u8]) -> &[u8]
     ensures { result.now ≡ grammar.before mark text.now }
 {
     match place_of(mark, text) {
@@ -133,7 +133,7 @@ fn before(mark: u8, text: &[u8]) -> &[u8]
 }
 
 /// What stands behind the first such mark, or nothing.
-fn behind(mark: u8, mut text: &[u8]) -> &[u8]
+pub(crate) fn behind(mark: u8, mut text: &[u8]) -> &[u8]
     ensures { result.now ≡ grammar.behind mark text.entry.now }
 {
     while let [first, rest @ ..] = text {
@@ -416,13 +416,41 @@ fn is_hierarchy(hierarchy: &[u8]) -> bool
     }
 }
 
-/// Whether the text is a URI (RFC 3986 appendix A).
+/// Whether what stands behind the scheme is spelled as in a URI (RFC 3986 appendix A).
+fn are_parts(text: &[u8]) -> bool
+    ensures { result ≡ grammar.are_parts text.now }
+{
+    is_hierarchy(hierarchy_of(text))
+        && (is_spelled(b":@/?", query_of(text)) && is_spelled(b":@/?", fragment_of(text)))
+}
+
+/// Whether the text is a URI (RFC 3986 appendix A) with something behind its scheme.
 pub(crate) fn is_uri(text: &[u8]) -> bool
     ensures { result ≡ grammar.is_uri text.now }
 {
-    is_absolute(text)
-        && (is_hierarchy(hierarchy_of(text))
-            && (is_spelled(b":@/?", query_of(text)) && is_spelled(b":@/?", fragment_of(text))))
+    is_absolute(text) && are_parts(text)
+}
+
+fn are_scheme_octets(text: &[u8]) -> bool
+    ensures { result ≡ list_all grammar.is_scheme_octet text.now }
+{
+    text.iter().all(|octet| is_scheme_octet(*octet))
+}
+
+fn is_scheme(text: &[u8]) -> bool
+    ensures { result ≡ grammar.is_scheme text.now }
+{
+    match text {
+        [first, rest @ ..] => first.is_ascii_alphabetic() && are_scheme_octets(rest),
+        [] => false,
+    }
+}
+
+/// Whether the text is a URI (RFC 3986 appendix A).
+pub(crate) fn is_any_uri(text: &[u8]) -> bool
+    ensures { result ≡ grammar.is_any_uri text.now }
+{
+    contains(b':', text) && (is_scheme(before(b':', text)) && are_parts(text))
 }
 
 fn has_letter(text: &[u8]) -> bool

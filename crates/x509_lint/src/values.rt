@@ -24,10 +24,12 @@ use x509_ext::pkix::{
 };
 use x509_prim::Uint;
 
-/// The basic constraints and the key usage of a certificate, by which it is or isn't one of a certification authority (CA).
+/// The basic constraints and the key usage of a certificate, by which it is or isn't one of a certification authority (CA), and the name constraints that such
+/// a one may have.
 pub(crate) struct AuthorityValues {
     pub(crate) basic_constraints: Option<AnyBasicConstraints>,
     pub(crate) key_usage: Option<KeyUsage>,
+    pub(crate) name_constraints: Option<NameConstraints>,
 }
 
 impl Drop for AuthorityValues {
@@ -35,6 +37,7 @@ impl Drop for AuthorityValues {
         let AuthorityValues {
             basic_constraints: _,
             key_usage: _,
+            name_constraints: _,
         } = self;
     }
 }
@@ -49,6 +52,7 @@ pub(crate) fn authority_values(
     Ok(AuthorityValues {
         basic_constraints: payload(alloc, extensions)?,
         key_usage: payload(alloc, extensions)?,
+        name_constraints: payload(alloc, extensions)?,
     })
 }
 
@@ -138,6 +142,9 @@ pub(crate) struct PolicyValues {
     /// One has an explicit text that is a UTF8String and isn't in Unicode Normalization Form C.
     pub(crate) has_unnormalized: bool,
 
+    /// The qualifier of one isn't a user notice.
+    pub(crate) has_unread_notice: bool,
+
     /// The issuerDomainPolicy of some mapping is none of the policies.
     pub(crate) has_unasserted_mapping: bool,
 }
@@ -156,6 +163,7 @@ impl Drop for PolicyValues {
             has_control: _,
             has_reference: _,
             has_unnormalized: _,
+            has_unread_notice: _,
             has_unasserted_mapping: _,
         } = self;
     }
@@ -178,6 +186,7 @@ pub(crate) fn policy_values(alloc: Global, extensions: &[Extension]) -> Result<P
         NoticeFault::Unnormalized,
         &certificate_policies,
     )?;
+    let has_unread_notice = has_faulty_notice(alloc, NoticeFault::Unread, &certificate_policies)?;
     let policy_mappings = payload(alloc, extensions)?;
     let has_unasserted_mapping = has_unasserted(
         alloc,
@@ -196,6 +205,7 @@ pub(crate) fn policy_values(alloc: Global, extensions: &[Extension]) -> Result<P
         has_control,
         has_reference,
         has_unnormalized,
+        has_unread_notice,
         has_unasserted_mapping,
     })
 }

@@ -7,7 +7,7 @@ ghost use Rattle.x509_lint.specs.Anchor as grammar;
 use crate::extensions::{extensions_of, payload};
 use crate::passes;
 use crate::read::{ExtensionsRead, extensions_read};
-use crate::repeats::{are_identifiers_distinct, policies_of};
+use crate::repeats::{are_identifiers_distinct, are_rdns_distinct, policies_of};
 use std::alloc::Global;
 use x509_base::laws::equality_of_keys_is_exact;
 use x509_base::{Raw, SubjectPublicKeyInfo};
@@ -18,7 +18,7 @@ use x509_ext::pkix::SubjectKeyIdentifier;
 use x509_ext::pkix::certpolicy::PolicyInformation;
 use x509_ext::{Extension, has_repeated_extension, members};
 use x509_name::laws::equal_names_are_one_value;
-use x509_name::name::Name;
+use x509_name::name::{Name, RdnSequence, RelativeDistinguishedName};
 
 /// What is asked of the description of a trust anchor beside its fields.
 pub(crate) struct AnchorValues {
@@ -39,6 +39,9 @@ pub(crate) struct AnchorValues {
 
     /// Which types of extensions are read.
     pub(crate) read: ExtensionsRead,
+
+    /// No RDN of the name has two attributes of one type.
+    pub(crate) is_name_distinct: bool,
 }
 
 impl Drop for AnchorValues {
@@ -50,6 +53,7 @@ impl Drop for AnchorValues {
             are_policies_distinct: _,
             is_repeated: _,
             read: _,
+            is_name_distinct: _,
         } = self;
     }
 }
@@ -105,6 +109,19 @@ pub(crate) fn policy_set(controls: &Option<CertPathControls<Raw>>) -> &[PolicyIn
     }
 }
 
+/// The RDNs of the name in the controls; none where there are no controls.
+fn ta_rdns(controls: &Option<CertPathControls<Raw>>) -> &[RelativeDistinguishedName]
+    ensures { result.now ≡ grammar.ta_rdns controls.now }
+{
+    match controls {
+        Some(controls) => {
+            let rdns: &RdnSequence = controls.ta_name.as_ref();
+            rdns.as_slice()
+        }
+        None => &[],
+    }
+}
+
 /// What is asked of the description of a trust anchor.
 pub(crate) fn anchor_values(
     alloc: Global,
@@ -120,6 +137,7 @@ pub(crate) fn anchor_values(
     let are_policies_distinct = are_identifiers_distinct(alloc, policy_set(&info.cert_path))?;
     let is_repeated = has_repeated_extension(alloc, extensions)?;
     let read = extensions_read(alloc, extensions)?;
+    let is_name_distinct = are_rdns_distinct(alloc, ta_rdns(&info.cert_path))?;
     Ok(AnchorValues {
         subject_differs,
         key_differs,
@@ -127,5 +145,6 @@ pub(crate) fn anchor_values(
         are_policies_distinct,
         is_repeated,
         read,
+        is_name_distinct,
     })
 }

@@ -10,7 +10,7 @@ ghost use Rattle.x509_lint.specs.Request as grammar;
 
 use crate::extensions::payload;
 use crate::read::{ExtensionsRead, extensions_read};
-use crate::repeats::are_oids_distinct;
+use crate::repeats::{are_oids_distinct, is_distinct_name};
 use std::alloc::Global;
 use x509_cert::request::attributes::ChallengePassword;
 use x509_cert::request::{CertReq, ExtensionReq, get_attribute};
@@ -41,6 +41,9 @@ pub(crate) struct RequestValues {
 
     /// The SAN that is asked for.
     pub(crate) subject_alt_name: Option<SubjectAltName>,
+
+    /// No RDN of the subject has two attributes of one type.
+    pub(crate) is_subject_distinct: bool,
 }
 
 impl Drop for RequestValues {
@@ -53,6 +56,7 @@ impl Drop for RequestValues {
             is_repeated: _,
             read: _,
             subject_alt_name: _,
+            is_subject_distinct: _,
         } = self;
     }
 }
@@ -168,6 +172,7 @@ pub(crate) fn request_values(alloc: Global, request: &CertReq) -> Result<Request
     let is_repeated = has_repeated_extension(alloc, requested_extensions(&requested))?;
     let read = extensions_read(alloc, requested_extensions(&requested))?;
     let subject_alt_name = payload(alloc, requested_extensions(&requested))?;
+    let is_subject_distinct = is_distinct_name(alloc, &request.info.subject)?;
     Ok(RequestValues {
         are_types_distinct,
         is_password_malformed,
@@ -176,5 +181,6 @@ pub(crate) fn request_values(alloc: Global, request: &CertReq) -> Result<Request
         is_repeated,
         read,
         subject_alt_name,
+        is_subject_distinct,
     })
 }

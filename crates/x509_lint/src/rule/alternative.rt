@@ -6,12 +6,14 @@ ghost use Rattle.x509_lint.specs.Alternative as grammar;
 ghost use Rattle.x509_lint.specs.Wording.{Says};
 ghost use Rattle.x509_lint.specs.Words.{passes};
 
+use crate::beyond::{Beyond, is_unjudged};
 use crate::entry::{Entry, rules};
 use crate::extensions::{extensions_of, has};
 use crate::group::{Group, Told};
 use crate::names::{
-    has_empty_name, has_no_address, has_no_dns_name, has_no_mailbox, has_no_uri, has_relative_uri,
-    has_uri_at_other_host, is_rfc822_name,
+    has_empty_name, has_no_address, has_no_dns_name, has_no_mailbox, has_no_smtp_mailbox,
+    has_no_srv_name, has_no_uri, has_odd_directory_name, has_relative_uri, has_uri_at_other_host,
+    is_rfc822_name,
 };
 use crate::passes;
 use crate::rule::Rule;
@@ -20,8 +22,8 @@ use crate::values::AlternativeValues;
 use x509_base::Raw;
 use x509_cert::certificate::CertificateInner;
 use x509_ext::Extension;
-use x509_ext::pkix::SubjectAltName;
 use x509_ext::pkix::name::GeneralName;
+use x509_ext::pkix::{IssuerAltName, SubjectAltName};
 
 /// Rules on the alternative names of the subject and the issuer (RFC 5280 4.2.1.6, 4.2.1.7).
 #[derive(Clone, Copy, Debug, PartialEq, Eq)]
@@ -53,6 +55,18 @@ pub enum AlternativeRule {
     /// An absolute URI of the SAN has an authority whose host is neither a fully qualified domain name nor an address (RFC 5280 4.2.1.6, error).
     SubjectAltNameUriHostInvalid,
 
+    /// A directoryName of the SAN has an RDN of no attribute, a countryName that isn't one, or a text that isn't as the issuer's have to be: of another string type, other characters, another size, or a domainComponent of another form (RFC 5280 4.2.1.6, error).
+    SubjectAltNameDirectoryNameInvalid,
+
+    /// A SRVName of the SAN isn't an IA5String of an underscore, a service, a dot and a domain name (RFC 4985 2, error).
+    SubjectAltNameSrvNameInvalid,
+
+    /// A SmtpUTF8Mailbox of the SAN isn't a UTF8String of a local part with a character above U+007F, the sign @ and a domain of A-labels (RFC 9598 3, error).
+    SubjectAltNameSmtpUtf8MailboxInvalid,
+
+    /// The SAN isn't read, and has an x400Address or an OID of more than 39 octets or with a number of 2^32 or more, which this library's decoder doesn't hold; the rules on what it says aren't judged (RFC 5280 4.2.1.6, not judged).
+    SubjectAltNameNotJudged,
+
     /// The IAN has no name (RFC 5280 4.2.1.7, error).
     IssuerAltNameEmpty,
 
@@ -76,10 +90,22 @@ pub enum AlternativeRule {
 
     /// An absolute URI of the IAN has an authority whose host is neither a fully qualified domain name nor an address (RFC 5280 4.2.1.7, error).
     IssuerAltNameUriHostInvalid,
+
+    /// A directoryName of the IAN has an RDN of no attribute, a countryName that isn't one, or a text that isn't as the issuer's have to be: of another string type, other characters, another size, or a domainComponent of another form (RFC 5280 4.2.1.7, error).
+    IssuerAltNameDirectoryNameInvalid,
+
+    /// A SRVName of the IAN isn't an IA5String of an underscore, a service, a dot and a domain name (RFC 4985 2, error).
+    IssuerAltNameSrvNameInvalid,
+
+    /// A SmtpUTF8Mailbox of the IAN isn't a UTF8String of a local part with a character above U+007F, the sign @ and a domain of A-labels (RFC 9598 3, error).
+    IssuerAltNameSmtpUtf8MailboxInvalid,
+
+    /// The IAN isn't read, and has an x400Address or an OID of more than 39 octets or with a number of 2^32 or more, which this library's decoder doesn't hold; the rules on what it says aren't judged (RFC 5280 4.2.1.7, not judged).
+    IssuerAltNameNotJudged,
 }
 
 /// The rules in their order, with how each is told.
-pub(crate) static ALTERNATIVE_RULES: [Told<AlternativeRule>; 17] = rules! { AlternativeRule;
+pub(crate) static ALTERNATIVE_RULES: [Told<AlternativeRule>; 25] = rules! { AlternativeRule;
     SubjectEmailNotInAltName => must("subject_email_not_in_alt_name", "4.1.2.6", "tbsCertificate.extensions.subjectAltName"),
     SubjectAltNameEmpty => must("subject_alt_name_empty", "4.2.1.6", "tbsCertificate.extensions.subjectAltName"),
     SubjectAltNameEmptyName => must("subject_alt_name_empty_name", "4.2.1.6", "tbsCertificate.extensions.subjectAltName"),
@@ -89,6 +115,10 @@ pub(crate) static ALTERNATIVE_RULES: [Told<AlternativeRule>; 17] = rules! { Alte
     SubjectAltNameUriRelative => must("subject_alt_name_uri_relative", "4.2.1.6", "tbsCertificate.extensions.subjectAltName"),
     SubjectAltNameUriInvalid => must("subject_alt_name_uri_invalid", "4.2.1.6", "tbsCertificate.extensions.subjectAltName"),
     SubjectAltNameUriHostInvalid => must("subject_alt_name_uri_host_invalid", "4.2.1.6", "tbsCertificate.extensions.subjectAltName"),
+    SubjectAltNameDirectoryNameInvalid => must("subject_alt_name_directory_name_invalid", "4.2.1.6", "tbsCertificate.extensions.subjectAltName"),
+    SubjectAltNameSrvNameInvalid => must_of("RFC 4985", "subject_alt_name_srv_name_invalid", "2", "tbsCertificate.extensions.subjectAltName"),
+    SubjectAltNameSmtpUtf8MailboxInvalid => must_of("RFC 9598", "subject_alt_name_smtp_utf8_mailbox_invalid", "3", "tbsCertificate.extensions.subjectAltName"),
+    SubjectAltNameNotJudged => not_judged("subject_alt_name_not_read", "4.2.1.6", "tbsCertificate.extensions.subjectAltName"),
     IssuerAltNameEmpty => must("issuer_alt_name_empty", "4.2.1.7", "tbsCertificate.extensions.issuerAltName"),
     IssuerAltNameEmptyName => must("issuer_alt_name_empty_name", "4.2.1.7", "tbsCertificate.extensions.issuerAltName"),
     IssuerAltNameDnsNameInvalid => must("issuer_alt_name_dns_name_invalid", "4.2.1.7", "tbsCertificate.extensions.issuerAltName"),
@@ -97,6 +127,10 @@ pub(crate) static ALTERNATIVE_RULES: [Told<AlternativeRule>; 17] = rules! { Alte
     IssuerAltNameUriRelative => must("issuer_alt_name_uri_relative", "4.2.1.7", "tbsCertificate.extensions.issuerAltName"),
     IssuerAltNameUriInvalid => must("issuer_alt_name_uri_invalid", "4.2.1.7", "tbsCertificate.extensions.issuerAltName"),
     IssuerAltNameUriHostInvalid => must("issuer_alt_name_uri_host_invalid", "4.2.1.7", "tbsCertificate.extensions.issuerAltName"),
+    IssuerAltNameDirectoryNameInvalid => must("issuer_alt_name_directory_name_invalid", "4.2.1.7", "tbsCertificate.extensions.issuerAltName"),
+    IssuerAltNameSrvNameInvalid => must_of("RFC 4985", "issuer_alt_name_srv_name_invalid", "2", "tbsCertificate.extensions.issuerAltName"),
+    IssuerAltNameSmtpUtf8MailboxInvalid => must_of("RFC 9598", "issuer_alt_name_smtp_utf8_mailbox_invalid", "3", "tbsCertificate.extensions.issuerAltName"),
+    IssuerAltNameNotJudged => not_judged("issuer_alt_name_not_read", "4.2.1.7", "tbsCertificate.extensions.issuerAltName"),
 };
 
 impl AlternativeRule {
@@ -150,6 +184,17 @@ impl Group<CertificateInner<Raw>, AlternativeValues> for AlternativeRule {
                 passes!(&values.subject_alt_name, names => has_no_uri(names.0.as_slice())),
             AlternativeRule::SubjectAltNameUriHostInvalid =>
                 passes!(&values.subject_alt_name, names => has_uri_at_other_host(names.0.as_slice())),
+            AlternativeRule::SubjectAltNameDirectoryNameInvalid =>
+                passes!(&values.subject_alt_name, names => has_odd_directory_name(names.0.as_slice())),
+            AlternativeRule::SubjectAltNameSrvNameInvalid =>
+                passes!(&values.subject_alt_name, names => has_no_srv_name(names.0.as_slice())),
+            AlternativeRule::SubjectAltNameSmtpUtf8MailboxInvalid =>
+                passes!(&values.subject_alt_name, names => has_no_smtp_mailbox(names.0.as_slice())),
+            AlternativeRule::SubjectAltNameNotJudged => is_unjudged::<SubjectAltName>(
+                Beyond::Names,
+                extensions_of(certificate),
+                values.subject_alt_name.is_some(),
+            ),
             AlternativeRule::IssuerAltNameEmpty =>
                 passes!(&values.issuer_alt_name, names => names.0.as_slice().is_empty()),
             AlternativeRule::IssuerAltNameEmptyName =>
@@ -166,6 +211,17 @@ impl Group<CertificateInner<Raw>, AlternativeValues> for AlternativeRule {
                 passes!(&values.issuer_alt_name, names => has_no_uri(names.0.as_slice())),
             AlternativeRule::IssuerAltNameUriHostInvalid =>
                 passes!(&values.issuer_alt_name, names => has_uri_at_other_host(names.0.as_slice())),
+            AlternativeRule::IssuerAltNameDirectoryNameInvalid =>
+                passes!(&values.issuer_alt_name, names => has_odd_directory_name(names.0.as_slice())),
+            AlternativeRule::IssuerAltNameSrvNameInvalid =>
+                passes!(&values.issuer_alt_name, names => has_no_srv_name(names.0.as_slice())),
+            AlternativeRule::IssuerAltNameSmtpUtf8MailboxInvalid =>
+                passes!(&values.issuer_alt_name, names => has_no_smtp_mailbox(names.0.as_slice())),
+            AlternativeRule::IssuerAltNameNotJudged => is_unjudged::<IssuerAltName>(
+                Beyond::Names,
+                extensions_of(certificate),
+                values.issuer_alt_name.is_some(),
+            ),
         }
     }
 

@@ -52,6 +52,9 @@ pub enum AnchorRule {
     /// An RDN of the name has no attribute (RFC 5280 4.1.2.4, error).
     TaNameRdnEmpty,
 
+    /// An RDN of the name has two attributes of one type (X.501 9.3, error).
+    TaNameRdnTypeRepeated,
+
     /// A countryName of the name isn't a PrintableString of two letters (RFC 5280 A.1, error).
     TaNameCountryNameInvalid,
 
@@ -66,6 +69,9 @@ pub enum AnchorRule {
 
     /// A text of the name is empty, or longer than the upper bound of its attribute (RFC 5280 A.1, error).
     TaNameTextSize,
+
+    /// A domainComponent of the name isn't one label of 1 to 63 letters, digits and hyphens, of which neither the first nor the last is a hyphen (RFC 4519 2.4, error).
+    TaNameDomainComponentInvalid,
 
     /// The subject of the certificate isn't the name of the anchor (RFC 5914 2.5, error).
     CertificateSubjectDiffers,
@@ -87,16 +93,18 @@ pub enum AnchorRule {
 }
 
 /// The rules in their order, with how each is told.
-pub(crate) static ANCHOR_RULES: [Told<AnchorRule>; 15] = rules! { AnchorRule;
+pub(crate) static ANCHOR_RULES: [Told<AnchorRule>; 17] = rules! { AnchorRule;
     TaTitleSize => must_of("RFC 5914", "ta_title_size", "2.4", "taInfo.taTitle"),
     TaTitleLangTagInvalid => should_of("RFC 5914", "ta_title_lang_tag_invalid", "2.4", "taInfo.taTitleLangTag"),
     TaNameEmpty => must_of("RFC 5914", "ta_name_empty", "2.5", "taInfo.certPath.taName"),
     TaNameRdnEmpty => must("ta_name_rdn_empty", "4.1.2.4", "taInfo.certPath.taName"),
+    TaNameRdnTypeRepeated => must_of("X.501", "ta_name_rdn_type_repeated", "9.3", "taInfo.certPath.taName"),
     TaNameCountryNameInvalid => must("ta_name_country_name_invalid", "A.1", "taInfo.certPath.taName"),
     TaNameTextType => must("ta_name_text_type", "A.1", "taInfo.certPath.taName"),
     TaNameTextOldType => should("ta_name_text_old_type", "4.1.2.4", "taInfo.certPath.taName"),
     TaNameTextCharacters => must("ta_name_text_characters", "4.1.2.4", "taInfo.certPath.taName"),
     TaNameTextSize => must("ta_name_text_size", "A.1", "taInfo.certPath.taName"),
+    TaNameDomainComponentInvalid => must_of("RFC 4519", "ta_name_domain_component_invalid", "2.4", "taInfo.certPath.taName"),
     CertificateSubjectDiffers => must_of("RFC 5914", "certificate_subject_differs", "2.5", "taInfo.certPath.certificate.tbsCertificate.subject"),
     CertificateKeyDiffers => must_of("RFC 5914", "certificate_key_differs", "2.5", "taInfo.certPath.certificate.tbsCertificate.subjectPublicKeyInfo"),
     CertificateKeyIdentifierDiffers => must_of("RFC 5914", "certificate_key_identifier_differs", "2.5", "taInfo.certPath.certificate.tbsCertificate.extensions.subjectKeyIdentifier"),
@@ -177,6 +185,7 @@ impl Group<TrustAnchorInfo<Raw>, AnchorValues> for AnchorRule {
                 passes!(&info.cert_path, controls => is_empty_name(&controls.ta_name)),
             AnchorRule::TaNameRdnEmpty =>
                 passes!(&info.cert_path, controls => has_empty_rdn(&controls.ta_name)),
+            AnchorRule::TaNameRdnTypeRepeated => !values.is_name_distinct,
             AnchorRule::TaNameCountryNameInvalid =>
                 passes!(&info.cert_path, controls => has_no_country(&controls.ta_name)),
             AnchorRule::TaNameTextType => has_faulty_name(TextFault::OtherType, &info.cert_path),
@@ -186,6 +195,10 @@ impl Group<TrustAnchorInfo<Raw>, AnchorValues> for AnchorRule {
                 &info.cert_path,
             ),
             AnchorRule::TaNameTextSize => has_faulty_name(TextFault::Size, &info.cert_path),
+            AnchorRule::TaNameDomainComponentInvalid => has_faulty_name(
+                TextFault::Label,
+                &info.cert_path,
+            ),
             AnchorRule::CertificateSubjectDiffers => values.subject_differs,
             AnchorRule::CertificateKeyDiffers => values.key_differs,
             AnchorRule::CertificateKeyIdentifierDiffers => is_other_identifier(
@@ -322,7 +335,7 @@ impl Group<TrustAnchorInfo<Raw>, AnchorValues> for AnchorExtensionRule {
 }
 
 /// Of each type of extension, that the octets of one of it aren't an encoding of the type.
-static ANCHOR_MALFORMED: [Told<ExtensionKind>; 18] = malformed!("taInfo.exts.");
+static ANCHOR_MALFORMED: [Told<ExtensionKind>; 22] = malformed!("taInfo.exts.");
 
 /// How the rule is told that an extension of the type is malformed.
 pub(crate) fn anchor_malformed(kind: ExtensionKind) -> Entry

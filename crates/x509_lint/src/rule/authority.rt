@@ -7,6 +7,7 @@ ghost use Rattle.x509_lint.specs.Words.{passes};
 ghost use Rattle.x509_prim.specs.Integer.{without_zeros};
 
 use crate::basic_constraints::AnyBasicConstraints;
+use crate::beyond::{Beyond, is_unjudged};
 use crate::entry::{Entry, rules};
 use crate::extensions::{has, has_uncritical};
 use crate::group::{Group, Told};
@@ -60,10 +61,13 @@ pub enum AuthorityRule {
 
     /// There is a NameConstraints, and cA isn't set (RFC 5280 4.2.1.10, error).
     NameConstraintsInLeaf,
+
+    /// The NameConstraints isn't read, and has an x400Address or an OID of more than 39 octets or with a number of 2^32 or more, which this library's decoder doesn't hold; the rules on what it says aren't judged (RFC 5280 4.2.1.10, not judged).
+    NameConstraintsNotJudged,
 }
 
 /// The rules in their order, with how each is told.
-pub(crate) static AUTHORITY_RULES: [Told<AuthorityRule>; 12] = rules! { AuthorityRule;
+pub(crate) static AUTHORITY_RULES: [Told<AuthorityRule>; 13] = rules! { AuthorityRule;
     CaSubjectEmpty => must("ca_subject_empty", "4.1.2.6", "tbsCertificate.subject"),
     CrlIssuerSubjectEmpty => must("crl_issuer_subject_empty", "4.1.2.6", "tbsCertificate.subject"),
     CaWithoutSubjectKeyIdentifier => must("ca_without_subject_key_identifier", "4.2.1.2", "tbsCertificate.extensions.subjectKeyIdentifier"),
@@ -76,6 +80,7 @@ pub(crate) static AUTHORITY_RULES: [Told<AuthorityRule>; 12] = rules! { Authorit
     PathLenWithoutCa => must("path_len_without_ca", "4.2.1.9", "tbsCertificate.extensions.basicConstraints"),
     PathLenNotJudged => not_judged("path_len_above_255", "4.2.1.9", "tbsCertificate.extensions.basicConstraints"),
     NameConstraintsInLeaf => must("name_constraints_in_leaf", "4.2.1.10", "tbsCertificate.extensions.nameConstraints"),
+    NameConstraintsNotJudged => not_judged("name_constraints_not_read", "4.2.1.10", "tbsCertificate.extensions.nameConstraints"),
 };
 
 impl AuthorityRule {
@@ -138,6 +143,11 @@ impl Group<CertificateInner<Raw>, AuthorityValues> for AuthorityRule {
             AuthorityRule::PathLenNotJudged =>
                 passes!(&values.basic_constraints, constraints => is_long_path(&constraints.path_len_constraint)),
             AuthorityRule::NameConstraintsInLeaf => is_no_ca && has::<NameConstraints>(extensions),
+            AuthorityRule::NameConstraintsNotJudged => is_unjudged::<NameConstraints>(
+                Beyond::Names,
+                extensions,
+                values.name_constraints.is_some(),
+            ),
         }
     }
 

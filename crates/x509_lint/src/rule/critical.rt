@@ -8,6 +8,7 @@ use crate::extensions::{has_critical, has_uncritical};
 use crate::facts::CertificateFacts;
 use crate::group::{Group, Told};
 use crate::names::is_empty_name;
+use crate::other_types::{OcspNoCheck, PrecertificatePoison};
 use crate::rule::Rule;
 use x509_base::Raw;
 use x509_cert::certificate::CertificateInner;
@@ -62,10 +63,16 @@ pub enum CriticalRule {
 
     /// A SubjectInfoAccess is critical (RFC 5280 4.2.2.2, error).
     SubjectInfoAccessCritical,
+
+    /// An id-pkix-ocsp-nocheck is critical (RFC 6960 4.2.2.2.1, warning).
+    OcspNoCheckCritical,
+
+    /// The poison extension of a precertificate isn't critical (RFC 6962 3.1, error).
+    PrecertificatePoisonNotCritical,
 }
 
 /// The rules in their order, with how each is told.
-pub(crate) static CRITICAL_RULES: [Told<CriticalRule>; 14] = rules! { CriticalRule;
+pub(crate) static CRITICAL_RULES: [Told<CriticalRule>; 16] = rules! { CriticalRule;
     AuthorityKeyIdentifierCritical => must("authority_key_identifier_critical", "4.2.1.1", "tbsCertificate.extensions.authorityKeyIdentifier"),
     SubjectKeyIdentifierCritical => must("subject_key_identifier_critical", "4.2.1.2", "tbsCertificate.extensions.subjectKeyIdentifier"),
     KeyUsageNotCritical => should("key_usage_not_critical", "4.2.1.3", "tbsCertificate.extensions.keyUsage"),
@@ -80,6 +87,8 @@ pub(crate) static CRITICAL_RULES: [Told<CriticalRule>; 14] = rules! { CriticalRu
     FreshestCrlCritical => must("freshest_crl_critical", "4.2.1.15", "tbsCertificate.extensions.freshestCRL"),
     AuthorityInfoAccessCritical => must("authority_info_access_critical", "4.2.2.1", "tbsCertificate.extensions.authorityInfoAccess"),
     SubjectInfoAccessCritical => must("subject_info_access_critical", "4.2.2.2", "tbsCertificate.extensions.subjectInfoAccess"),
+    OcspNoCheckCritical => should_of("RFC 6960", "ocsp_no_check_critical", "4.2.2.2.1", "tbsCertificate.extensions.ocspNoCheck"),
+    PrecertificatePoisonNotCritical => must_of("RFC 6962", "precertificate_poison_not_critical", "3.1", "tbsCertificate.extensions.precertificatePoison"),
 };
 
 impl CriticalRule {
@@ -134,6 +143,10 @@ impl Group<CertificateInner<Raw>, CertificateFacts> for CriticalRule {
                 extensions,
             ),
             CriticalRule::SubjectInfoAccessCritical => has_critical::<SubjectInfoAccessSyntax>(
+                extensions,
+            ),
+            CriticalRule::OcspNoCheckCritical => has_critical::<OcspNoCheck>(extensions),
+            CriticalRule::PrecertificatePoisonNotCritical => has_uncritical::<PrecertificatePoison>(
                 extensions,
             ),
         }

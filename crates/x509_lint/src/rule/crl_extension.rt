@@ -5,6 +5,7 @@ ghost use Rattle.x509_lint.specs.CrlExtension as grammar;
 ghost use Rattle.x509_lint.specs.Wording.{Says};
 ghost use Rattle.x509_lint.specs.Words.{passes};
 
+use crate::beyond::{Beyond, is_unjudged};
 use crate::entry::{Entry, rules};
 use crate::extensions::{has, has_critical, has_uncritical};
 use crate::group::{Group, Told};
@@ -31,6 +32,9 @@ pub enum CrlExtensionRule {
 
     /// An AKI is critical (RFC 5280 4.2.1.1, error).
     AuthorityKeyIdentifierCritical,
+
+    /// The AKI isn't read, and has an x400Address or an OID of more than 39 octets or with a number of 2^32 or more, which this library's decoder doesn't hold; the rules on what it says aren't judged (RFC 5280 5.2.1, not judged).
+    AuthorityKeyIdentifierNotJudged,
 
     /// An IAN is critical (RFC 5280 5.2.2, warning).
     IssuerAltNameCritical,
@@ -59,6 +63,9 @@ pub enum CrlExtensionRule {
     /// The IssuingDistributionPoint asserts onlyContainsAttributeCerts (RFC 5280 5.2.5, error).
     IssuingDistributionPointAttributeCerts,
 
+    /// The IssuingDistributionPoint isn't read, and has an x400Address or an OID of more than 39 octets or with a number of 2^32 or more, which this library's decoder doesn't hold; the rules on what it says aren't judged (RFC 5280 5.2.5, not judged).
+    IssuingDistributionPointNotJudged,
+
     /// A FreshestCRL is critical (RFC 5280 5.2.6, error).
     FreshestCrlCritical,
 
@@ -68,6 +75,9 @@ pub enum CrlExtensionRule {
     /// A point of the FreshestCRL has reasons or a cRLIssuer (RFC 5280 5.2.6, error).
     FreshestCrlReasonsOrIssuer,
 
+    /// The FreshestCRL isn't read, and has an x400Address or an OID of more than 39 octets or with a number of 2^32 or more, which this library's decoder doesn't hold; the rules on what it says aren't judged (RFC 5280 5.2.6, not judged).
+    FreshestCrlNotJudged,
+
     /// An AuthorityInfoAccess is critical (RFC 5280 5.2.7, error).
     AuthorityInfoAccessCritical,
 
@@ -76,13 +86,17 @@ pub enum CrlExtensionRule {
 
     /// The AuthorityInfoAccess has id-ad-caIssuers, and no HTTP or LDAP URI for it (RFC 5280 5.2.7, warning).
     CaIssuersWithoutUri,
+
+    /// The AuthorityInfoAccess isn't read, and has an x400Address or an OID of more than 39 octets or with a number of 2^32 or more, which this library's decoder doesn't hold; the rules on what it says aren't judged (RFC 5280 5.2.7, not judged).
+    AuthorityInfoAccessNotJudged,
 }
 
 /// The rules in their order, with how each is told.
-pub(crate) static CRL_EXTENSION_RULES: [Told<CrlExtensionRule>; 18] = rules! { CrlExtensionRule;
+pub(crate) static CRL_EXTENSION_RULES: [Told<CrlExtensionRule>; 22] = rules! { CrlExtensionRule;
     AuthorityKeyIdentifierAbsent => must("authority_key_identifier_absent", "5.2.1", "tbsCertList.crlExtensions.authorityKeyIdentifier"),
     AuthorityKeyIdentifierWithoutKey => must("authority_key_identifier_without_key", "5.2.1", "tbsCertList.crlExtensions.authorityKeyIdentifier"),
     AuthorityKeyIdentifierCritical => must("authority_key_identifier_critical", "4.2.1.1", "tbsCertList.crlExtensions.authorityKeyIdentifier"),
+    AuthorityKeyIdentifierNotJudged => not_judged("authority_key_identifier_not_read", "5.2.1", "tbsCertList.crlExtensions.authorityKeyIdentifier"),
     IssuerAltNameCritical => should("issuer_alt_name_critical", "5.2.2", "tbsCertList.crlExtensions.issuerAltName"),
     CrlNumberAbsent => must("crl_number_absent", "5.2.3", "tbsCertList.crlExtensions.cRLNumber"),
     CrlNumberCritical => must("crl_number_critical", "5.2.3", "tbsCertList.crlExtensions.cRLNumber"),
@@ -92,12 +106,15 @@ pub(crate) static CRL_EXTENSION_RULES: [Told<CrlExtensionRule>; 18] = rules! { C
     IssuingDistributionPointEmpty => must("issuing_distribution_point_empty", "5.2.5", "tbsCertList.crlExtensions.issuingDistributionPoint"),
     IssuingDistributionPointKinds => must("issuing_distribution_point_kinds", "5.2.5", "tbsCertList.crlExtensions.issuingDistributionPoint"),
     IssuingDistributionPointAttributeCerts => must("issuing_distribution_point_attribute_certs", "5.2.5", "tbsCertList.crlExtensions.issuingDistributionPoint"),
+    IssuingDistributionPointNotJudged => not_judged("issuing_distribution_point_not_read", "5.2.5", "tbsCertList.crlExtensions.issuingDistributionPoint"),
     FreshestCrlCritical => must("freshest_crl_critical", "5.2.6", "tbsCertList.crlExtensions.freshestCRL"),
     FreshestCrlInDelta => must("freshest_crl_in_delta", "5.2.6", "tbsCertList.crlExtensions.freshestCRL"),
     FreshestCrlReasonsOrIssuer => must("freshest_crl_reasons_or_issuer", "5.2.6", "tbsCertList.crlExtensions.freshestCRL"),
+    FreshestCrlNotJudged => not_judged("freshest_crl_not_read", "5.2.6", "tbsCertList.crlExtensions.freshestCRL"),
     AuthorityInfoAccessCritical => must("authority_info_access_critical", "5.2.7", "tbsCertList.crlExtensions.authorityInfoAccess"),
     AuthorityInfoAccessOtherMethod => must("authority_info_access_other_method", "5.2.7", "tbsCertList.crlExtensions.authorityInfoAccess"),
     CaIssuersWithoutUri => should("ca_issuers_without_uri", "5.2.7", "tbsCertList.crlExtensions.authorityInfoAccess"),
+    AuthorityInfoAccessNotJudged => not_judged("authority_info_access_not_read", "5.2.7", "tbsCertList.crlExtensions.authorityInfoAccess"),
 };
 
 impl CrlExtensionRule {
@@ -167,6 +184,13 @@ impl Group<CertificateList<Raw>, CrlValues> for CrlExtensionRule {
             CrlExtensionRule::AuthorityKeyIdentifierCritical => has_critical::<
                 AuthorityKeyIdentifier,
             >(extensions),
+            CrlExtensionRule::AuthorityKeyIdentifierNotJudged => is_unjudged::<
+                AuthorityKeyIdentifier,
+            >(
+                Beyond::Names,
+                extensions,
+                values.authority_key_identifier.is_some(),
+            ),
             CrlExtensionRule::IssuerAltNameCritical => has_critical::<IssuerAltName>(extensions),
             CrlExtensionRule::CrlNumberAbsent => !has::<CrlNumber>(extensions),
             CrlExtensionRule::CrlNumberCritical => has_critical::<CrlNumber>(extensions),
@@ -187,11 +211,23 @@ impl Group<CertificateList<Raw>, CrlValues> for CrlExtensionRule {
             CrlExtensionRule::IssuingDistributionPointAttributeCerts => has_attribute_certs(
                 &values.issuing_distribution_point,
             ),
+            CrlExtensionRule::IssuingDistributionPointNotJudged => is_unjudged::<
+                IssuingDistributionPoint,
+            >(
+                Beyond::Names,
+                extensions,
+                values.issuing_distribution_point.is_some(),
+            ),
             CrlExtensionRule::FreshestCrlCritical => has_critical::<FreshestCrl>(extensions),
             CrlExtensionRule::FreshestCrlInDelta => has::<FreshestCrl>(extensions)
                 && has::<BaseCrlNumber>(extensions),
             CrlExtensionRule::FreshestCrlReasonsOrIssuer =>
                 passes!(&values.freshest_crl, list => has_fault(PointFault::ReasonsOrIssuer, list.0.as_slice())),
+            CrlExtensionRule::FreshestCrlNotJudged => is_unjudged::<FreshestCrl>(
+                Beyond::Names,
+                extensions,
+                values.freshest_crl.is_some(),
+            ),
             CrlExtensionRule::AuthorityInfoAccessCritical => has_critical::<
                 AuthorityInfoAccessSyntax,
             >(extensions),
@@ -199,6 +235,13 @@ impl Group<CertificateList<Raw>, CrlValues> for CrlExtensionRule {
                 passes!(&values.authority_info_access, list => has_other_method(CA_ISSUERS, list.0.as_slice())),
             CrlExtensionRule::CaIssuersWithoutUri =>
                 passes!(&values.authority_info_access, list => lacks_uri(CA_ISSUERS, list.0.as_slice())),
+            CrlExtensionRule::AuthorityInfoAccessNotJudged => is_unjudged::<
+                AuthorityInfoAccessSyntax,
+            >(
+                Beyond::Names,
+                extensions,
+                values.authority_info_access.is_some(),
+            ),
         }
     }
 

@@ -123,6 +123,9 @@ pub enum CrlFieldRule {
     /// An RDN of the issuer has no attribute (RFC 5280 5.1.2.3, error).
     IssuerRdnEmpty,
 
+    /// An RDN of the issuer has two attributes of one type (X.501 9.3, error).
+    IssuerRdnTypeRepeated,
+
     /// A countryName of the issuer isn't a PrintableString of two letters (RFC 5280 A.1, error).
     IssuerCountryNameInvalid,
 
@@ -137,6 +140,9 @@ pub enum CrlFieldRule {
 
     /// The text of an attribute of the issuer is empty, or longer than its upper bound (RFC 5280 A.1, error).
     IssuerTextSize,
+
+    /// A domainComponent of the issuer isn't one label of 1 to 63 letters, digits and hyphens, of which neither the first nor the last is a hyphen (RFC 4519 2.4, error).
+    IssuerDomainComponentInvalid,
 
     /// `thisUpdate` is a date through 2049, and a GeneralizedTime (RFC 5280 5.1.2.4, error).
     ThisUpdateNotUtcTime,
@@ -167,17 +173,19 @@ pub enum CrlFieldRule {
 }
 
 /// The rules in their order, with how each is told.
-pub(crate) static CRL_FIELD_RULES: [Told<CrlFieldRule>; 19] = rules! { CrlFieldRule;
+pub(crate) static CRL_FIELD_RULES: [Told<CrlFieldRule>; 21] = rules! { CrlFieldRule;
     SignatureAlgorithmsDiffer => must("signature_algorithms_differ", "5.1.1.2", "signatureAlgorithm"),
     ExtensionsWithoutV2 => must("extensions_without_v2", "5.1.2.1", "tbsCertList.version"),
     VersionNotV2 => must("version_not_v2", "5.1.2.1", "tbsCertList.version"),
     IssuerEmpty => must("issuer_empty", "5.1.2.3", "tbsCertList.issuer"),
     IssuerRdnEmpty => must("issuer_rdn_empty", "5.1.2.3", "tbsCertList.issuer"),
+    IssuerRdnTypeRepeated => must_of("X.501", "issuer_rdn_type_repeated", "9.3", "tbsCertList.issuer"),
     IssuerCountryNameInvalid => must("issuer_country_name_invalid", "A.1", "tbsCertList.issuer"),
     IssuerTextType => must("issuer_text_type", "A.1", "tbsCertList.issuer"),
     IssuerTextOldType => should("issuer_text_old_type", "5.1.2.3", "tbsCertList.issuer"),
     IssuerTextCharacters => must("issuer_text_characters", "5.1.2.3", "tbsCertList.issuer"),
     IssuerTextSize => must("issuer_text_size", "A.1", "tbsCertList.issuer"),
+    IssuerDomainComponentInvalid => must_of("RFC 4519", "issuer_domain_component_invalid", "2.4", "tbsCertList.issuer"),
     ThisUpdateNotUtcTime => must("this_update_not_utc_time", "5.1.2.4", "tbsCertList.thisUpdate"),
     NextUpdateAbsent => must("next_update_absent", "5.1.2.5", "tbsCertList.nextUpdate"),
     NextUpdateNotUtcTime => must("next_update_not_utc_time", "5.1.2.5", "tbsCertList.nextUpdate"),
@@ -285,6 +293,7 @@ impl Group<CertificateList<Raw>, CrlFacts> for CrlFieldRule {
             CrlFieldRule::VersionNotV2 => is_not_v2(&part.version),
             CrlFieldRule::IssuerEmpty => is_empty_name(&part.issuer),
             CrlFieldRule::IssuerRdnEmpty => has_empty_rdn(&part.issuer),
+            CrlFieldRule::IssuerRdnTypeRepeated => !facts.is_issuer_distinct,
             CrlFieldRule::IssuerCountryNameInvalid => has_no_country(&part.issuer),
             CrlFieldRule::IssuerTextType => has_faulty_text(TextFault::OtherType, &part.issuer),
             CrlFieldRule::IssuerTextOldType => has_faulty_text(TextFault::OldType, &part.issuer),
@@ -293,6 +302,10 @@ impl Group<CertificateList<Raw>, CrlFacts> for CrlFieldRule {
                 &part.issuer,
             ),
             CrlFieldRule::IssuerTextSize => has_faulty_text(TextFault::Size, &part.issuer),
+            CrlFieldRule::IssuerDomainComponentInvalid => has_faulty_text(
+                TextFault::Label,
+                &part.issuer,
+            ),
             CrlFieldRule::ThisUpdateNotUtcTime => is_early_general(part.this_update),
             CrlFieldRule::NextUpdateAbsent => !part.next_update.is_some(),
             CrlFieldRule::NextUpdateNotUtcTime => is_next_early_general(part.next_update),

@@ -6,6 +6,7 @@ ghost use Rattle.x509_lint.specs.Key as grammar;
 ghost use Rattle.x509_lint.specs.Wording.{Says};
 ghost use Rattle.x509_lint.specs.Words.{is_empty, passes};
 
+use crate::beyond::{Beyond, is_unjudged};
 use crate::entry::{Entry, rules};
 use crate::extensions::{has, has_critical, is_empty_sequence};
 use crate::group::{Group, Told};
@@ -34,24 +35,32 @@ pub enum KeyRule {
     /// The AKI has one of authorityCertIssuer and authorityCertSerialNumber without the other (RFC 5280 4.2.1.1, error).
     AuthorityCertIssuerAndSerialApart,
 
+    /// The AKI isn't read, and has an x400Address or an OID of more than 39 octets or with a number of 2^32 or more, which this library's decoder doesn't hold; the rules on what it says aren't judged (RFC 5280 4.2.1.1, not judged).
+    AuthorityKeyIdentifierNotJudged,
+
     /// The ExtendedKeyUsage has no purpose (RFC 5280 4.2.1.12, error).
     ExtendedKeyUsageEmpty,
 
     /// The ExtendedKeyUsage has anyExtendedKeyUsage, and is critical (RFC 5280 4.2.1.12, warning).
     AnyExtendedKeyUsageCritical,
 
+    /// The ExtendedKeyUsage isn't read, and has an OID of more than 39 octets or with a number of 2^32 or more, which this library's decoder doesn't hold; the rules on what it says aren't judged (RFC 5280 4.2.1.12, not judged).
+    ExtendedKeyUsageNotJudged,
+
     /// The PrivateKeyUsagePeriod has neither date (RFC 5280 A.2, error).
     PrivateKeyUsagePeriodEmpty,
 }
 
 /// The rules in their order, with how each is told.
-pub(crate) static KEY_RULES: [Told<KeyRule>; 7] = rules! { KeyRule;
+pub(crate) static KEY_RULES: [Told<KeyRule>; 9] = rules! { KeyRule;
     AuthorityKeyIdentifierAbsent => must("authority_key_identifier_absent", "4.2.1.1", "tbsCertificate.extensions.authorityKeyIdentifier"),
     AuthorityKeyIdentifierWithoutKey => must("authority_key_identifier_without_key", "4.2.1.1", "tbsCertificate.extensions.authorityKeyIdentifier"),
     AuthorityCertIssuerEmpty => must("authority_cert_issuer_empty", "4.2.1.1", "tbsCertificate.extensions.authorityKeyIdentifier"),
     AuthorityCertIssuerAndSerialApart => must("authority_cert_issuer_and_serial_apart", "4.2.1.1", "tbsCertificate.extensions.authorityKeyIdentifier"),
+    AuthorityKeyIdentifierNotJudged => not_judged("authority_key_identifier_not_read", "4.2.1.1", "tbsCertificate.extensions.authorityKeyIdentifier"),
     ExtendedKeyUsageEmpty => must("extended_key_usage_empty", "4.2.1.12", "tbsCertificate.extensions.extKeyUsage"),
     AnyExtendedKeyUsageCritical => should("any_extended_key_usage_critical", "4.2.1.12", "tbsCertificate.extensions.extKeyUsage"),
+    ExtendedKeyUsageNotJudged => not_judged("extended_key_usage_not_read", "4.2.1.12", "tbsCertificate.extensions.extKeyUsage"),
     PrivateKeyUsagePeriodEmpty => must("private_key_usage_period_empty", "A.2", "tbsCertificate.extensions.privateKeyUsagePeriod"),
 };
 
@@ -126,11 +135,21 @@ impl Group<CertificateInner<Raw>, KeyValues> for KeyRule {
             KeyRule::AuthorityCertIssuerAndSerialApart => has_half_issuer(
                 &values.authority_key_identifier,
             ),
+            KeyRule::AuthorityKeyIdentifierNotJudged => is_unjudged::<AuthorityKeyIdentifier>(
+                Beyond::Names,
+                extensions,
+                values.authority_key_identifier.is_some(),
+            ),
             KeyRule::ExtendedKeyUsageEmpty =>
                 passes!(&values.extended_key_usage, usage => usage.0.as_slice().is_empty()),
             KeyRule::AnyExtendedKeyUsageCritical =>
                 passes!(&values.extended_key_usage, usage => is_any_among(usage.0.as_slice()))
                     && has_critical::<ExtendedKeyUsage>(extensions),
+            KeyRule::ExtendedKeyUsageNotJudged => is_unjudged::<ExtendedKeyUsage>(
+                Beyond::Identifiers,
+                extensions,
+                values.extended_key_usage.is_some(),
+            ),
             KeyRule::PrivateKeyUsagePeriodEmpty => has_no_date(&values.private_key_usage_period),
         }
     }

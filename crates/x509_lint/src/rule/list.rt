@@ -9,6 +9,7 @@ use crate::entry::{Entry, rules};
 use crate::extensions::is_empty_list;
 use crate::facts::CertificateFacts;
 use crate::group::{Group, Told};
+use crate::other_types::{OcspNoCheck, PrecertificatePoison, QcStatements, TlsFeatures};
 use crate::rule::Rule;
 use x509_base::Raw;
 use x509_cert::certificate::CertificateInner;
@@ -20,7 +21,7 @@ use x509_ext::pkix::{
     SubjectAltName, SubjectDirectoryAttributes, SubjectInfoAccessSyntax, SubjectKeyIdentifier,
 };
 
-/// A type of extension that certificates have (RFC 5280 4.2).
+/// A type of extension that certificates have (RFC 5280 4.2; the last four are those of other standards).
 #[derive(Clone, Copy, Debug, PartialEq, Eq)]
 pub enum ExtensionKind {
     /// `authorityKeyIdentifier`.
@@ -76,6 +77,18 @@ pub enum ExtensionKind {
 
     /// `freshestCRL`.
     FreshestCrl,
+
+    /// `ocspNoCheck`, id-pkix-ocsp-nocheck (RFC 6960 4.2.2.2.1).
+    OcspNoCheck,
+
+    /// `precertificatePoison` (RFC 6962 3.1).
+    PrecertificatePoison,
+
+    /// `tlsFeature` (RFC 7633 4).
+    TlsFeatures,
+
+    /// `qcStatements` (RFC 3739 3.2.6).
+    QcStatements,
 }
 
 /// The table of rules that an extension of a type is malformed, of each type: the place of their list is given.
@@ -100,6 +113,10 @@ macro_rules! malformed {
             InhibitAnyPolicy => must("extension_malformed", "4.2", concat!($list, "inhibitAnyPolicy")),
             CrlDistributionPoints => must("extension_malformed", "4.2", concat!($list, "cRLDistributionPoints")),
             FreshestCrl => must("extension_malformed", "4.2", concat!($list, "freshestCRL")),
+            OcspNoCheck => must("extension_malformed", "4.2", concat!($list, "ocspNoCheck")),
+            PrecertificatePoison => must("extension_malformed", "4.2", concat!($list, "precertificatePoison")),
+            TlsFeatures => must("extension_malformed", "4.2", concat!($list, "tlsFeature")),
+            QcStatements => must("extension_malformed", "4.2", concat!($list, "qcStatements")),
         }
     };
 }
@@ -107,7 +124,7 @@ macro_rules! malformed {
 pub(crate) use malformed;
 
 /// Of each type of extension, that the octets of one of it aren't an encoding of the type.
-pub(crate) static MALFORMED: [Told<ExtensionKind>; 18] = malformed!("tbsCertificate.extensions.");
+pub(crate) static MALFORMED: [Told<ExtensionKind>; 22] = malformed!("tbsCertificate.extensions.");
 
 impl ExtensionKind {
     /// The OID of the type.
@@ -133,6 +150,10 @@ impl ExtensionKind {
             ExtensionKind::InhibitAnyPolicy => InhibitAnyPolicy::OID,
             ExtensionKind::CrlDistributionPoints => CrlDistributionPoints::OID,
             ExtensionKind::FreshestCrl => FreshestCrl::OID,
+            ExtensionKind::OcspNoCheck => OcspNoCheck::OID,
+            ExtensionKind::PrecertificatePoison => PrecertificatePoison::OID,
+            ExtensionKind::TlsFeatures => TlsFeatures::OID,
+            ExtensionKind::QcStatements => QcStatements::OID,
         }
     }
 

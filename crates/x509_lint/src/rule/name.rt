@@ -21,6 +21,9 @@ pub enum NameRule {
     /// An RDN of the issuer has no attribute (RFC 5280 4.1.2.4, error).
     IssuerRdnEmpty,
 
+    /// An RDN of the issuer has two attributes of one type (X.501 9.3, error).
+    IssuerRdnTypeRepeated,
+
     /// A countryName of the issuer isn't a PrintableString of two letters (RFC 5280 A.1, error).
     IssuerCountryNameInvalid,
 
@@ -36,8 +39,14 @@ pub enum NameRule {
     /// The text of an attribute of the issuer is empty, or longer than its upper bound (RFC 5280 A.1, error).
     IssuerTextSize,
 
+    /// A domainComponent of the issuer isn't one label of 1 to 63 letters, digits and hyphens, of which neither the first nor the last is a hyphen (RFC 4519 2.4, error).
+    IssuerDomainComponentInvalid,
+
     /// An RDN of the subject has no attribute (RFC 5280 4.1.2.6, error).
     SubjectRdnEmpty,
+
+    /// An RDN of the subject has two attributes of one type (X.501 9.3, error).
+    SubjectRdnTypeRepeated,
 
     /// A countryName of the subject isn't a PrintableString of two letters (RFC 5280 A.1, error).
     SubjectCountryNameInvalid,
@@ -54,24 +63,31 @@ pub enum NameRule {
     /// The text of an attribute of the subject is empty, or longer than its upper bound (RFC 5280 A.1, error).
     SubjectTextSize,
 
+    /// A domainComponent of the subject isn't one label of 1 to 63 letters, digits and hyphens, of which neither the first nor the last is a hyphen (RFC 4519 2.4, error).
+    SubjectDomainComponentInvalid,
+
     /// The subject is the empty name, and there is no SAN that is critical (RFC 5280 4.1.2.6, error).
     SubjectEmptyWithoutCriticalAltName,
 }
 
 /// The rules in their order, with how each is told.
-pub(crate) static NAME_RULES: [Told<NameRule>; 13] = rules! { NameRule;
+pub(crate) static NAME_RULES: [Told<NameRule>; 17] = rules! { NameRule;
     IssuerRdnEmpty => must("issuer_rdn_empty", "4.1.2.4", "tbsCertificate.issuer"),
+    IssuerRdnTypeRepeated => must_of("X.501", "issuer_rdn_type_repeated", "9.3", "tbsCertificate.issuer"),
     IssuerCountryNameInvalid => must("issuer_country_name_invalid", "A.1", "tbsCertificate.issuer"),
     IssuerTextType => must("issuer_text_type", "A.1", "tbsCertificate.issuer"),
     IssuerTextOldType => should("issuer_text_old_type", "4.1.2.4", "tbsCertificate.issuer"),
     IssuerTextCharacters => must("issuer_text_characters", "4.1.2.4", "tbsCertificate.issuer"),
     IssuerTextSize => must("issuer_text_size", "A.1", "tbsCertificate.issuer"),
+    IssuerDomainComponentInvalid => must_of("RFC 4519", "issuer_domain_component_invalid", "2.4", "tbsCertificate.issuer"),
     SubjectRdnEmpty => must("subject_rdn_empty", "4.1.2.6", "tbsCertificate.subject"),
+    SubjectRdnTypeRepeated => must_of("X.501", "subject_rdn_type_repeated", "9.3", "tbsCertificate.subject"),
     SubjectCountryNameInvalid => must("subject_country_name_invalid", "A.1", "tbsCertificate.subject"),
     SubjectTextType => must("subject_text_type", "A.1", "tbsCertificate.subject"),
     SubjectTextOldType => should("subject_text_old_type", "4.1.2.6", "tbsCertificate.subject"),
     SubjectTextCharacters => must("subject_text_characters", "4.1.2.6", "tbsCertificate.subject"),
     SubjectTextSize => must("subject_text_size", "A.1", "tbsCertificate.subject"),
+    SubjectDomainComponentInvalid => must_of("RFC 4519", "subject_domain_component_invalid", "2.4", "tbsCertificate.subject"),
     SubjectEmptyWithoutCriticalAltName => must("subject_empty_without_critical_alt_name", "4.1.2.6", "tbsCertificate.subject"),
 };
 
@@ -92,10 +108,11 @@ impl Group<CertificateInner<Raw>, CertificateFacts> for NameRule {
 
     ghost as_rule = { λ rule. Name rule };
 
-    fn is_broken(&self, certificate: &CertificateInner<Raw>, _facts: &CertificateFacts) -> bool {
+    fn is_broken(&self, certificate: &CertificateInner<Raw>, facts: &CertificateFacts) -> bool {
         let part = certificate.tbs_certificate();
         match self {
             NameRule::IssuerRdnEmpty => has_empty_rdn(part.issuer()),
+            NameRule::IssuerRdnTypeRepeated => !facts.is_issuer_distinct,
             NameRule::IssuerCountryNameInvalid => has_no_country(part.issuer()),
             NameRule::IssuerTextType => has_faulty_text(TextFault::OtherType, part.issuer()),
             NameRule::IssuerTextOldType => has_faulty_text(TextFault::OldType, part.issuer()),
@@ -104,7 +121,12 @@ impl Group<CertificateInner<Raw>, CertificateFacts> for NameRule {
                 part.issuer(),
             ),
             NameRule::IssuerTextSize => has_faulty_text(TextFault::Size, part.issuer()),
+            NameRule::IssuerDomainComponentInvalid => has_faulty_text(
+                TextFault::Label,
+                part.issuer(),
+            ),
             NameRule::SubjectRdnEmpty => has_empty_rdn(part.subject()),
+            NameRule::SubjectRdnTypeRepeated => !facts.is_subject_distinct,
             NameRule::SubjectCountryNameInvalid => has_no_country(part.subject()),
             NameRule::SubjectTextType => has_faulty_text(TextFault::OtherType, part.subject()),
             NameRule::SubjectTextOldType => has_faulty_text(TextFault::OldType, part.subject()),
@@ -113,6 +135,10 @@ impl Group<CertificateInner<Raw>, CertificateFacts> for NameRule {
                 part.subject(),
             ),
             NameRule::SubjectTextSize => has_faulty_text(TextFault::Size, part.subject()),
+            NameRule::SubjectDomainComponentInvalid => has_faulty_text(
+                TextFault::Label,
+                part.subject(),
+            ),
             NameRule::SubjectEmptyWithoutCriticalAltName => is_empty_name(part.subject())
                 && !has_critical::<SubjectAltName>(members(part.extensions())),
         }

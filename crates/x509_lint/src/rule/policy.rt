@@ -3,9 +3,11 @@
 ghost use Rattle.std.specs.List.{list_any};
 ghost use Rattle.std.specs.Prelude.{◌≡◌, ◌&&◌, is_some, not};
 ghost use Rattle.x509_lint.specs.Policy as grammar;
+ghost use Rattle.x509_lint.specs.Uri.{is_any_uri};
 ghost use Rattle.x509_lint.specs.Wording.{Says};
 ghost use Rattle.x509_lint.specs.Words.{is_empty, passes};
 
+use crate::beyond::{Beyond, is_unjudged};
 use crate::entry::{Entry, rules};
 use crate::extensions::{extensions_of, has, is_empty_sequence};
 use crate::group::{Group, Told};
@@ -13,12 +15,14 @@ use crate::notices::USER_NOTICE;
 use crate::passes;
 use crate::rule::Rule;
 use crate::skip_certs::AnyPolicyConstraints;
+use crate::texts::{is_ia5, is_ia5_string};
+use crate::uris::is_any_uri;
 use crate::values::PolicyValues;
 use x509_base::Raw;
 use x509_cert::certificate::CertificateInner;
-use x509_der::{ObjectIdentifier, oid};
+use x509_der::{Any, ObjectIdentifier, oid};
 use x509_ext::pkix::certpolicy::{PolicyInformation, PolicyQualifierInfo};
-use x509_ext::pkix::{CertificatePolicies, PolicyMapping};
+use x509_ext::pkix::{CertificatePolicies, PolicyMapping, PolicyMappings};
 
 /// Rules on certificate policies, policy mappings and policy constraints (RFC 5280 4.2.1.4, 4.2.1.5, 4.2.1.11).
 #[derive(Clone, Copy, Debug, PartialEq, Eq)]
@@ -34,6 +38,18 @@ pub enum PolicyRule {
 
     /// A qualifier of anyPolicy is neither a CPS pointer nor a user notice (RFC 5280 4.2.1.4, error).
     AnyPolicyQualifierInvalid,
+
+    /// A qualifier of another policy than anyPolicy is neither a CPS pointer nor a user notice (RFC 5280 4.2.1.4, warning).
+    PolicyQualifierOther,
+
+    /// The qualifier of a CPS pointer isn't an IA5String (RFC 5280 4.2.1.4, error).
+    CpsPointerMalformed,
+
+    /// The qualifier of a CPS pointer is an IA5String, and not a URI (RFC 3986) (RFC 5280 4.2.1.4, error).
+    CpsPointerNotUri,
+
+    /// The qualifier of a user notice isn't a UserNotice (RFC 5280 4.2.1.4, error).
+    UserNoticeMalformed,
 
     /// The explicit text of a user notice has more than 200 characters (RFC 5280 4.2.1.4, error).
     ExplicitTextTooLong,
@@ -56,6 +72,9 @@ pub enum PolicyRule {
     /// The explicit text of a user notice is a UTF8String that isn't in Unicode Normalization Form C (RFC 5280 4.2.1.4, warning).
     ExplicitTextNotNormalized,
 
+    /// The CertificatePolicies isn't read, and has an OID of more than 39 octets or with a number of 2^32 or more, which this library's decoder doesn't hold; the rules on what it says aren't judged (RFC 5280 4.2.1.4, not judged).
+    CertificatePoliciesNotJudged,
+
     /// The PolicyMappings has no mapping (RFC 5280 4.2.1.5, error).
     PolicyMappingsEmpty,
 
@@ -65,16 +84,23 @@ pub enum PolicyRule {
     /// The issuerDomainPolicy of a mapping is none of the certificate policies, which are absent or read (RFC 5280 4.2.1.5, warning).
     PolicyMappingNotAsserted,
 
+    /// The PolicyMappings isn't read, and has an OID of more than 39 octets or with a number of 2^32 or more, which this library's decoder doesn't hold; the rules on what it says aren't judged (RFC 5280 4.2.1.5, not judged).
+    PolicyMappingsNotJudged,
+
     /// The PolicyConstraints has neither number (RFC 5280 4.2.1.11, error).
     PolicyConstraintsEmpty,
 }
 
 /// The rules in their order, with how each is told.
-pub(crate) static POLICY_RULES: [Told<PolicyRule>; 15] = rules! { PolicyRule;
+pub(crate) static POLICY_RULES: [Told<PolicyRule>; 21] = rules! { PolicyRule;
     CertificatePoliciesEmpty => must("certificate_policies_empty", "4.2.1.4", "tbsCertificate.extensions.certificatePolicies"),
     CertificatePolicyRepeated => must("certificate_policy_repeated", "4.2.1.4", "tbsCertificate.extensions.certificatePolicies"),
     PolicyQualifiersEmpty => must("policy_qualifiers_empty", "4.2.1.4", "tbsCertificate.extensions.certificatePolicies"),
     AnyPolicyQualifierInvalid => must("any_policy_qualifier_invalid", "4.2.1.4", "tbsCertificate.extensions.certificatePolicies"),
+    PolicyQualifierOther => should("policy_qualifier_other", "4.2.1.4", "tbsCertificate.extensions.certificatePolicies"),
+    CpsPointerMalformed => must("cps_pointer_malformed", "4.2.1.4", "tbsCertificate.extensions.certificatePolicies"),
+    CpsPointerNotUri => must("cps_pointer_not_uri", "4.2.1.4", "tbsCertificate.extensions.certificatePolicies"),
+    UserNoticeMalformed => must("user_notice_malformed", "4.2.1.4", "tbsCertificate.extensions.certificatePolicies"),
     ExplicitTextTooLong => must("explicit_text_too_long", "4.2.1.4", "tbsCertificate.extensions.certificatePolicies"),
     ExplicitTextEmpty => must("explicit_text_empty", "4.2.1.4", "tbsCertificate.extensions.certificatePolicies"),
     ExplicitTextType => must_of("RFC 6818", "explicit_text_type", "3", "tbsCertificate.extensions.certificatePolicies"),
@@ -82,9 +108,11 @@ pub(crate) static POLICY_RULES: [Told<PolicyRule>; 15] = rules! { PolicyRule;
     ExplicitTextControl => should("explicit_text_control", "4.2.1.4", "tbsCertificate.extensions.certificatePolicies"),
     NoticeReferencePresent => should("notice_reference_present", "4.2.1.4", "tbsCertificate.extensions.certificatePolicies"),
     ExplicitTextNotNormalized => should("explicit_text_not_normalized", "4.2.1.4", "tbsCertificate.extensions.certificatePolicies"),
+    CertificatePoliciesNotJudged => not_judged("certificate_policies_not_read", "4.2.1.4", "tbsCertificate.extensions.certificatePolicies"),
     PolicyMappingsEmpty => must("policy_mappings_empty", "4.2.1.5", "tbsCertificate.extensions.policyMappings"),
     PolicyMappingAnyPolicy => must("policy_mapping_any_policy", "4.2.1.5", "tbsCertificate.extensions.policyMappings"),
     PolicyMappingNotAsserted => should("policy_mapping_not_asserted", "4.2.1.5", "tbsCertificate.extensions.policyMappings"),
+    PolicyMappingsNotJudged => not_judged("policy_mappings_not_read", "4.2.1.5", "tbsCertificate.extensions.policyMappings"),
     PolicyConstraintsEmpty => must("policy_constraints_empty", "4.2.1.11", "tbsCertificate.extensions.policyConstraints"),
 };
 
@@ -170,6 +198,83 @@ fn has_other_qualifier(policies: &[PolicyInformation]) -> bool
     policies.iter().any(is_other_policy)
 }
 
+fn is_further_policy(policy: &PolicyInformation) -> bool
+    ensures { result ≡ grammar.has_further_qualifier policy.now }
+{
+    if policy.policy_identifier == ANY_POLICY {
+        return false;
+    }
+    passes!(&policy.policy_qualifiers, qualifiers => are_other_qualifiers(qualifiers.as_slice()))
+}
+
+fn has_further_qualifier(policies: &[PolicyInformation]) -> bool
+    ensures { result ≡ list_any grammar.has_further_qualifier policies.now }
+{
+    policies.iter().any(is_further_policy)
+}
+
+/// What may be wrong with a CPS pointer (RFC 5280 4.2.1.4).
+#[derive(Clone, Copy)]
+pub(crate) enum PointerFault {
+    /// It isn't an IA5String.
+    NoText,
+
+    /// It is one, and isn't a URI.
+    NoUri,
+}
+
+/// Whether the element is an IA5String.
+fn is_pointer(element: &Any) -> bool
+    ensures { result ≡ grammar.is_pointer element.now }
+{
+    is_ia5_string(element.tag()) && is_ia5(element.value())
+}
+
+fn is_other_pointer(element: &Any) -> bool
+    ensures { result ≡ (grammar.is_pointer element.now && not (is_any_uri element.now.value)) }
+{
+    is_pointer(element) && !is_any_uri(element.value())
+}
+
+fn is_faulty_text(fault: PointerFault, qualifier: &Option<Any>) -> bool
+    ensures { result ≡ grammar.is_faulty_text fault qualifier.now }
+{
+    match fault {
+        PointerFault::NoText => !passes!(qualifier, element => is_pointer(element)),
+        PointerFault::NoUri => passes!(qualifier, element => is_other_pointer(element)),
+    }
+}
+
+/// Whether the qualifier is a CPS pointer with the fault.
+fn is_faulty_pointer(fault: PointerFault, qualifier: &PolicyQualifierInfo) -> bool
+    ensures { result ≡ grammar.is_faulty_pointer fault qualifier.now }
+{
+    qualifier.policy_qualifier_id == CPS && is_faulty_text(fault, &qualifier.qualifier)
+}
+
+fn are_faulty_pointers(fault: PointerFault, qualifiers: &[PolicyQualifierInfo]) -> bool
+    ensures { result ≡ list_any (grammar.is_faulty_pointer fault) qualifiers.now }
+{
+    qualifiers
+        .iter()
+        .any(|qualifier| is_faulty_pointer(fault, qualifier))
+}
+
+fn is_policy_of_pointer(fault: PointerFault, policy: &PolicyInformation) -> bool
+    ensures { result ≡ grammar.has_faulty_pointer fault policy.now }
+{
+    passes!(&policy.policy_qualifiers, qualifiers => are_faulty_pointers(fault, qualifiers.as_slice()))
+}
+
+/// Whether a policy has a CPS pointer with the fault.
+fn has_faulty_pointer(fault: PointerFault, policies: &[PolicyInformation]) -> bool
+    ensures { result ≡ list_any (grammar.has_faulty_pointer fault) policies.now }
+{
+    policies
+        .iter()
+        .any(|policy| is_policy_of_pointer(fault, policy))
+}
+
 impl Group<CertificateInner<Raw>, PolicyValues> for PolicyRule {
     ghost use Rattle.x509_lint.specs.Policy.{policy_sentence};
     ghost use Rattle.x509_lint.specs.declared.rule.Rule.TheVariants.{Policy};
@@ -187,6 +292,13 @@ impl Group<CertificateInner<Raw>, PolicyValues> for PolicyRule {
                 passes!(&values.certificate_policies, policies => has_empty_qualifiers(policies.0.as_slice())),
             PolicyRule::AnyPolicyQualifierInvalid =>
                 passes!(&values.certificate_policies, policies => has_other_qualifier(policies.0.as_slice())),
+            PolicyRule::PolicyQualifierOther =>
+                passes!(&values.certificate_policies, policies => has_further_qualifier(policies.0.as_slice())),
+            PolicyRule::CpsPointerMalformed =>
+                passes!(&values.certificate_policies, policies => has_faulty_pointer(PointerFault::NoText, policies.0.as_slice())),
+            PolicyRule::CpsPointerNotUri =>
+                passes!(&values.certificate_policies, policies => has_faulty_pointer(PointerFault::NoUri, policies.0.as_slice())),
+            PolicyRule::UserNoticeMalformed => values.has_unread_notice,
             PolicyRule::ExplicitTextTooLong => values.has_long_text,
             PolicyRule::ExplicitTextEmpty => values.has_empty_text,
             PolicyRule::ExplicitTextType => values.has_ia5_text,
@@ -194,12 +306,22 @@ impl Group<CertificateInner<Raw>, PolicyValues> for PolicyRule {
             PolicyRule::ExplicitTextControl => values.has_control,
             PolicyRule::NoticeReferencePresent => values.has_reference,
             PolicyRule::ExplicitTextNotNormalized => values.has_unnormalized,
+            PolicyRule::CertificatePoliciesNotJudged => is_unjudged::<CertificatePolicies>(
+                Beyond::Identifiers,
+                extensions_of(certificate),
+                values.certificate_policies.is_some(),
+            ),
             PolicyRule::PolicyMappingsEmpty =>
                 passes!(&values.policy_mappings, mappings => mappings.0.as_slice().is_empty()),
             PolicyRule::PolicyMappingAnyPolicy =>
                 passes!(&values.policy_mappings, mappings => has_any_policy(mappings.0.as_slice())),
             PolicyRule::PolicyMappingNotAsserted => are_policies_known(certificate, values)
                 && values.has_unasserted_mapping,
+            PolicyRule::PolicyMappingsNotJudged => is_unjudged::<PolicyMappings>(
+                Beyond::Identifiers,
+                extensions_of(certificate),
+                values.policy_mappings.is_some(),
+            ),
             PolicyRule::PolicyConstraintsEmpty => has_no_number(&values.policy_constraints),
         }
     }

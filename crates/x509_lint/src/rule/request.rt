@@ -6,12 +6,14 @@ ghost use Rattle.x509_lint.specs.Request as grammar;
 ghost use Rattle.x509_lint.specs.Wording.{Says};
 ghost use Rattle.x509_lint.specs.Words.{is_empty, passes};
 
+use crate::beyond::{Beyond, is_unjudged};
 use crate::entry::{Entry, rules};
 use crate::extensions::has;
 use crate::group::{Group, Told};
 use crate::names::{
     has_empty_name, has_empty_rdn, has_no_address, has_no_country, has_no_dns_name, has_no_mailbox,
-    has_no_uri, has_relative_uri, has_uri_at_other_host, is_empty_name,
+    has_no_smtp_mailbox, has_no_srv_name, has_no_uri, has_odd_directory_name, has_relative_uri,
+    has_uri_at_other_host, is_empty_name,
 };
 use crate::passes;
 use crate::request::passwords::{PasswordFault, has_faulty_password};
@@ -31,6 +33,9 @@ pub enum RequestRule {
     /// An RDN of the subject has no attribute (RFC 5280 4.1.2.6, error).
     SubjectRdnEmpty,
 
+    /// An RDN of the subject has two attributes of one type (X.501 9.3, error).
+    SubjectRdnTypeRepeated,
+
     /// A countryName of the subject isn't a PrintableString of two letters (RFC 5280 A.1, error).
     SubjectCountryNameInvalid,
 
@@ -45,6 +50,9 @@ pub enum RequestRule {
 
     /// A text of the subject is empty, or longer than the upper bound of its attribute (RFC 5280 A.1, error).
     SubjectTextSize,
+
+    /// A domainComponent of the subject isn't one label of 1 to 63 letters, digits and hyphens, of which neither the first nor the last is a hyphen (RFC 4519 2.4, error).
+    SubjectDomainComponentInvalid,
 
     /// The subject is the empty name, and no SAN is asked for (RFC 5280 4.1.2.6, error).
     SubjectEmptyWithoutAltName,
@@ -81,13 +89,15 @@ pub enum RequestRule {
 }
 
 /// The rules in their order, with how each is told.
-pub(crate) static REQUEST_RULES: [Told<RequestRule>; 17] = rules! { RequestRule;
+pub(crate) static REQUEST_RULES: [Told<RequestRule>; 19] = rules! { RequestRule;
     SubjectRdnEmpty => must("subject_rdn_empty", "4.1.2.6", "certificationRequestInfo.subject"),
+    SubjectRdnTypeRepeated => must_of("X.501", "subject_rdn_type_repeated", "9.3", "certificationRequestInfo.subject"),
     SubjectCountryNameInvalid => must("subject_country_name_invalid", "A.1", "certificationRequestInfo.subject"),
     SubjectTextType => must("subject_text_type", "A.1", "certificationRequestInfo.subject"),
     SubjectTextOldType => should("subject_text_old_type", "4.1.2.6", "certificationRequestInfo.subject"),
     SubjectTextCharacters => must("subject_text_characters", "4.1.2.6", "certificationRequestInfo.subject"),
     SubjectTextSize => must("subject_text_size", "A.1", "certificationRequestInfo.subject"),
+    SubjectDomainComponentInvalid => must_of("RFC 4519", "subject_domain_component_invalid", "2.4", "certificationRequestInfo.subject"),
     SubjectEmptyWithoutAltName => must("subject_empty_without_alt_name", "4.1.2.6", "certificationRequestInfo.subject"),
     AttributeRepeated => should_of("RFC 2986", "attribute_repeated", "4.1", "certificationRequestInfo.attributes"),
     AttributeValuesEmpty => must_of("RFC 2986", "attribute_values_empty", "4.1", "certificationRequestInfo.attributes"),
@@ -110,7 +120,8 @@ impl RequestRule {
     }
 }
 
-fn has_no_values(attributes: &[Attribute]) -> bool
+/// Whether an attribute has no value.
+pub(crate) fn has_no_values(attributes: &[Attribute]) -> bool
     ensures { result ≡ list_any (λ a. is_empty a.values) attributes.now }
 {
     attributes
@@ -144,6 +155,7 @@ impl Group<CertReq, RequestValues> for RequestRule {
     fn is_broken(&self, request: &CertReq, values: &RequestValues) -> bool {
         match self {
             RequestRule::SubjectRdnEmpty => has_empty_rdn(&request.info.subject),
+            RequestRule::SubjectRdnTypeRepeated => !values.is_subject_distinct,
             RequestRule::SubjectCountryNameInvalid => has_no_country(&request.info.subject),
             RequestRule::SubjectTextType => has_faulty_text(
                 TextFault::OtherType,
@@ -158,6 +170,10 @@ impl Group<CertReq, RequestValues> for RequestRule {
                 &request.info.subject,
             ),
             RequestRule::SubjectTextSize => has_faulty_text(TextFault::Size, &request.info.subject),
+            RequestRule::SubjectDomainComponentInvalid => has_faulty_text(
+                TextFault::Label,
+                &request.info.subject,
+            ),
             RequestRule::SubjectEmptyWithoutAltName => is_empty_name(&request.info.subject)
                 && !has::<SubjectAltName>(requested_extensions(&values.requested)),
             RequestRule::AttributeRepeated => !values.are_types_distinct,
@@ -190,7 +206,7 @@ impl Group<CertReq, RequestValues> for RequestRule {
 }
 
 /// Of each type of extension, that the octets of one of it aren't an encoding of the type.
-static REQUEST_MALFORMED: [Told<ExtensionKind>; 18] = malformed!(
+static REQUEST_MALFORMED: [Told<ExtensionKind>; 22] = malformed!(
     "certificationRequestInfo.attributes.extensionRequest."
 );
 
@@ -244,10 +260,22 @@ pub enum RequestNameRule {
 
     /// An absolute URI of the SAN that is asked for has an authority whose host is neither a fully qualified domain name nor an address (RFC 5280 4.2.1.6, error).
     SubjectAltNameUriHostInvalid,
+
+    /// A directoryName of the SAN that is asked for has an RDN of no attribute, a countryName that isn't one, or a text that isn't as the issuer's have to be: of another string type, other characters, another size, or a domainComponent of another form (RFC 5280 4.2.1.6, error).
+    SubjectAltNameDirectoryNameInvalid,
+
+    /// A SRVName of the SAN that is asked for isn't an IA5String of an underscore, a service, a dot and a domain name (RFC 4985 2, error).
+    SubjectAltNameSrvNameInvalid,
+
+    /// A SmtpUTF8Mailbox of the SAN that is asked for isn't a UTF8String of a local part with a character above U+007F, the sign @ and a domain of A-labels (RFC 9598 3, error).
+    SubjectAltNameSmtpUtf8MailboxInvalid,
+
+    /// The SAN that is asked for isn't read, and has an x400Address or an OID of more than 39 octets or with a number of 2^32 or more, which this library's decoder doesn't hold; the rules on what it says aren't judged (RFC 5280 4.2.1.6, not judged).
+    SubjectAltNameNotJudged,
 }
 
 /// The rules in their order, with how each is told.
-pub(crate) static REQUEST_NAME_RULES: [Told<RequestNameRule>; 8] = rules! { RequestNameRule;
+pub(crate) static REQUEST_NAME_RULES: [Told<RequestNameRule>; 12] = rules! { RequestNameRule;
     SubjectAltNameEmpty => must("subject_alt_name_empty", "4.2.1.6", "certificationRequestInfo.attributes.extensionRequest.subjectAltName"),
     SubjectAltNameEmptyName => must("subject_alt_name_empty_name", "4.2.1.6", "certificationRequestInfo.attributes.extensionRequest.subjectAltName"),
     SubjectAltNameDnsNameInvalid => must("subject_alt_name_dns_name_invalid", "4.2.1.6", "certificationRequestInfo.attributes.extensionRequest.subjectAltName"),
@@ -256,6 +284,10 @@ pub(crate) static REQUEST_NAME_RULES: [Told<RequestNameRule>; 8] = rules! { Requ
     SubjectAltNameUriRelative => must("subject_alt_name_uri_relative", "4.2.1.6", "certificationRequestInfo.attributes.extensionRequest.subjectAltName"),
     SubjectAltNameUriInvalid => must("subject_alt_name_uri_invalid", "4.2.1.6", "certificationRequestInfo.attributes.extensionRequest.subjectAltName"),
     SubjectAltNameUriHostInvalid => must("subject_alt_name_uri_host_invalid", "4.2.1.6", "certificationRequestInfo.attributes.extensionRequest.subjectAltName"),
+    SubjectAltNameDirectoryNameInvalid => must("subject_alt_name_directory_name_invalid", "4.2.1.6", "certificationRequestInfo.attributes.extensionRequest.subjectAltName"),
+    SubjectAltNameSrvNameInvalid => must_of("RFC 4985", "subject_alt_name_srv_name_invalid", "2", "certificationRequestInfo.attributes.extensionRequest.subjectAltName"),
+    SubjectAltNameSmtpUtf8MailboxInvalid => must_of("RFC 9598", "subject_alt_name_smtp_utf8_mailbox_invalid", "3", "certificationRequestInfo.attributes.extensionRequest.subjectAltName"),
+    SubjectAltNameNotJudged => not_judged("subject_alt_name_not_read", "4.2.1.6", "certificationRequestInfo.attributes.extensionRequest.subjectAltName"),
 };
 
 impl RequestNameRule {
@@ -293,6 +325,17 @@ impl Group<CertReq, RequestValues> for RequestNameRule {
                 passes!(&values.subject_alt_name, names => has_no_uri(names.0.as_slice())),
             RequestNameRule::SubjectAltNameUriHostInvalid =>
                 passes!(&values.subject_alt_name, names => has_uri_at_other_host(names.0.as_slice())),
+            RequestNameRule::SubjectAltNameDirectoryNameInvalid =>
+                passes!(&values.subject_alt_name, names => has_odd_directory_name(names.0.as_slice())),
+            RequestNameRule::SubjectAltNameSrvNameInvalid =>
+                passes!(&values.subject_alt_name, names => has_no_srv_name(names.0.as_slice())),
+            RequestNameRule::SubjectAltNameSmtpUtf8MailboxInvalid =>
+                passes!(&values.subject_alt_name, names => has_no_smtp_mailbox(names.0.as_slice())),
+            RequestNameRule::SubjectAltNameNotJudged => is_unjudged::<SubjectAltName>(
+                Beyond::Names,
+                requested_extensions(&values.requested),
+                values.subject_alt_name.is_some(),
+            ),
         }
     }
 

@@ -14,4 +14,5 @@ returns-clause-ok c =
       subst (λ es. IsCrlRead es c.in_ok-read.read) same c.in_ok-read.ensures.ok,
       subst (λ es. IsTrue c.in_ok-are_serials_distinct.are_serials_distinct ↔ AreDistinct (serials es)) c.entries.ensures c.in_ok-are_serials_distinct.ensures.ok,
       subst (λ es. IsTrue c.in_ok-are_entries_distinct.are_entries_distinct ↔ All IsDistinct es) c.entries-2.ensures c.in_ok-are_entries_distinct.ensures.ok,
+      c.in_ok-is_issuer_distinct.ensures.ok,
     )

@@ -4,7 +4,8 @@ use Rattle.x509_ext.specs.Identifiers.{id_ce}
 use Rattle.x509_ext.specs.LookUp.{IsRepeated, members}
 use Rattle.x509_ext.specs.SubjectKeyIdentifier.{subject_key_identifier}
 use Rattle.x509_lint.specs.Read.{AreExtensionsRead}
-use Rattle.x509_lint.specs.Values.{policy_identifiers}
+use Rattle.std.specs.List.{All}
+use Rattle.x509_lint.specs.Values.{HasDistinctTypes, policy_identifiers}
 use Rattle.x509_lint.specs.Words.{IsValue}
 use Rattle.x509_lint.proofs.anchor.values.anchor_values.Goals as goal
 
@@ -17,4 +18,5 @@ returns-clause-ok c =
       subst (λ ps. IsTrue c.in_ok-are_policies_distinct.are_policies_distinct ↔ AreDistinct (policy_identifiers ps)) c.policy_set.ensures c.in_ok-are_policies_distinct.ensures.ok,
       subst (λ es. IsTrue c.in_ok-is_repeated.is_repeated ↔ IsRepeated es) same c.in_ok-is_repeated.ensures.ok,
       subst (λ es. AreExtensionsRead es c.in_ok-read.read) same c.in_ok-read.ensures.ok,
+      subst (λ rdns. IsTrue c.in_ok-is_name_distinct.is_name_distinct ↔ All HasDistinctTypes rdns) c.ta_rdns.ensures c.in_ok-is_name_distinct.ensures.ok,
     )
