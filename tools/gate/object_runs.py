@@ -11,7 +11,6 @@ import tomllib
 
 TOP = pathlib.Path(__file__).resolve().parents[2]
 PEM = {
-    b"-----BEGIN CERTIFICATE-----\nMAA=\n-----END CERTIFICATE-----\n" * 2: "x509",
     b"-----BEGIN CERTIFICATE-----\nMAA\n-----END CERTIFICATE-----\n": "x509",
     b"-----BEGIN CERTIFICATE-----\nMA A=\n-----END CERTIFICATE-----\n": "x509",
     b"-----BEGIN CERTIFICATE-----\nMAA=\n-----END X509 CRL-----\n": "x509",
@@ -58,10 +57,12 @@ def counted(program, runs):
 
 
 class Program:
-    """A program: its file, its name, its line of usage, how it tells that an input is no object, and objects with their texts and statuses."""
+    """A program: its file, its name, its line of usage, how it tells that an input is no object, objects with their texts and statuses, and what it tells above
+    the usage of an option that is none."""
 
-    def __init__(self, path, usage, no_object, objects):
+    def __init__(self, path, usage, no_object, objects, wrong=lambda option: ""):
         self.path, self.name, self.usage, self.no_object, self.objects = path, usage.split()[1], usage, no_object, objects
+        self.wrong = wrong
 
     def told(self, label, reason):
         return 2, "", f"{self.name}: {label}: {reason}\n"
@@ -75,9 +76,9 @@ class Program:
             [
                 ("--version", ["--version"], b"", (0, f"{self.name} {version()}\n", "")),
                 ("--version behind a name", ["no such file", "--version"], b"", (0, f"{self.name} {version()}\n", "")),
-                ("an option that is none", ["--xml"], b"", (2, "", self.usage)),
-                ("an option that is none, and a file", ["-x", "no such file"], b"", (2, "", self.usage)),
-                ("help with something behind it", ["--help=all"], b"", (2, "", self.usage)),
+                ("an option that is none", ["--xml"], b"", (2, "", self.wrong("--xml") + self.usage)),
+                ("an option that is none, and a file", ["-x", "no such file"], b"", (2, "", self.wrong("-x") + self.usage)),
+                ("help with something behind it", ["--help=all"], b"", (2, "", self.wrong("--help=all") + self.usage)),
             ]
         )
 
@@ -125,6 +126,33 @@ class Program:
         if os.path.exists("/proc/self/mem"):
             yield "a file of which a read fails", ["/proc/self/mem"], b"", self.told("/proc/self/mem", "can't be read")
         yield from self.several(paths, missing)
+        yield from self.bundles(folder / "chain.pem")
+
+    def bundles(self, path):
+        """PEM of several objects, each of which is called by its number."""
+        pem = [next(pem_of(data)) for data, _, _ in self.objects]
+        statuses = [status for _, _, status in self.objects]
+        path.write_bytes(b"a comment\n".join(pem))
+
+        def texts(label, first=1):
+            return "".join(f"{label}, object {at}:\n{text}" for at, (_, text, _) in enumerate(self.objects, first) if text)
+
+        yield "PEM of several objects", [str(path)], b"", (max(statuses), texts(path), "")
+        yield "PEM of several objects on standard input", [], b"".join(pem), (max(statuses), texts("standard input"), "")
+        found = texts("standard input", 2)
+        for name, data, reason in (
+            ("no object", PEM_OF_NOTHING, self.no_object),
+            ("an empty object", PEM_OF_NOTHING.replace(b"MAA=\n", b""), f"{self.no_object}; it is empty"),
+        ):
+            said = f"{self.name}: standard input, object 1: {reason}\n"
+            yield f"PEM of {name} and several others", [], data + b"".join(pem), (2, found, said)
+        said = "".join(f"{self.name}: standard input, object {at}: {self.no_object}\n" for at in (1, 2))
+        yield "PEM of twice no object", [], PEM_OF_NOTHING * 2, (2, "", said)
+        hint = f"{self.no_object}; this looks like PEM, but not of one object: `openssl x509 -outform DER`"
+        yield "PEM of several objects without its last line", [], b"".join(pem).rstrip()[:-1], self.told("standard input", hint)
+        first = self.objects[0]
+        heading = f"standard input:\n{first[1]}" if first[1] else ""
+        yield "PEM of several objects and a file", [str(path), "-"], first[0], (max(statuses), texts(path) + heading, "")
 
     def several(self, paths, missing):
         data = self.objects[0][0]

@@ -14,7 +14,8 @@ import tempfile
 sys.path.insert(0, str(pathlib.Path(__file__).resolve().parents[1]))
 from common.der import BIT_STRING, BMP_STRING, GENERALIZED_TIME, IA5_STRING, NULL, PRINTABLE_STRING, TELETEX_STRING, TRUE, UTC_TIME, UTF8_STRING, VISIBLE_STRING
 from common.der import bit_string, context, element, integer, object_identifier, octet_string, sequence, set_of
-from object_runs import Program, counted, ended
+from list_rule_names import rule_names
+from object_runs import PEM_OF_NOTHING, Program, counted, ended, pem_of
 
 ENUMERATED, NUMERIC_STRING, UNIVERSAL_STRING = 0x0A, 0x12, 0x1C
 EMAIL_ADDRESS, DOMAIN_COMPONENT = object_identifier(1, 2, 840, 113549, 1, 9, 1), object_identifier(0, 9, 2342, 19200300, 100, 1, 25)
@@ -210,6 +211,13 @@ def name_rules():
     yield certificate(issuer=sequence(rdn(three))), [error("issuer_country_name_invalid", "A.1")]
     yield certificate(issuer=sequence(rdn(text))), [error("issuer_country_name_invalid", "A.1")]
     yield certificate(subject=sequence(rdn())), [error("subject_rdn_empty", "4.1.2.6")]
+    one, other = (3, element(UTF8_STRING, b"a")), (3, element(PRINTABLE_STRING, b"another"))
+    for owner in ("issuer", "subject"):
+        repeated = [of_standard("error", f"{owner}_rdn_type_repeated", "X.501", "9.3")]
+        for attributes in ((one, other), (one, three, other), (one, (4, one[1]), other, (5, other[1]))):
+            told = repeated if three not in attributes else [*repeated, error(f"{owner}_country_name_invalid", "A.1")]
+            yield certificate(**{owner: sequence(rdn((10, one[1])), rdn(*attributes))}), told
+        yield certificate(**{owner: sequence(rdn(one), rdn(other), rdn((10, one[1]), (11, one[1])))}), []
     yield certificate(subject=sequence(rdn(three))), [error("subject_country_name_invalid", "A.1")]
     yield certificate(subject=sequence(rdn((6, element(PRINTABLE_STRING, b"De"))))), []
     yield certificate(subject=sequence()), [error("subject_empty_without_critical_alt_name", "4.1.2.6")]
@@ -232,7 +240,11 @@ def texts(owner, section):
     yield rdn((5, element(PRINTABLE_STRING, b"a")), (46, element(PRINTABLE_STRING, b"a"))), []
     for oid in (DOMAIN_COMPONENT, EMAIL_ADDRESS):
         yield set_of(sequence(oid, element(UTF8_STRING, b"a"))), [kind]
-    yield set_of(sequence(DOMAIN_COMPONENT, element(IA5_STRING, b"a"))), []
+    label = of_standard("error", f"{owner}_domain_component_invalid", "RFC 4519", "2.4")
+    for text in (b"example.org", b"a.", b".", b"", b"a_b", b"-a", b"a-", b"a b", b"a" * 64):
+        yield set_of(sequence(DOMAIN_COMPONENT, element(IA5_STRING, text))), [label]
+    for text in (b"a", b"1", b"A-1", b"a" * 63, b"xn--a"):
+        yield set_of(sequence(DOMAIN_COMPONENT, element(IA5_STRING, text))), []
     yield rdn((9, element(IA5_STRING, b"a"))), []
     for tag, text in (
         (UTF8_STRING, b"\xff"),
@@ -316,8 +328,37 @@ def malformed_rules():
     for number, name in EXTENSIONS:
         others = [it for kept, it in zip((35, 14, 15, 19), CA) if kept != number]
         yield certificate(extensions=(*others, ce(number, NULL, number in critical))), [malformed(name)]
-    for number, name in ((1, "authorityInfoAccess"), (11, "subjectInfoAccess")):
+    for number, name in ((1, "authorityInfoAccess"), (11, "subjectInfoAccess"), (3, "qcStatements"), (24, "tlsFeature")):
         yield ca_with(pe(number, NULL)), [malformed(name)]
+    yield from other_malformed_rules()
+
+
+OCSP_NO_CHECK = object_identifier(1, 3, 6, 1, 5, 5, 7, 48, 1, 5)
+POISON = object_identifier(1, 3, 6, 1, 4, 1, 11129, 2, 4, 3)
+PAST = object_identifier(1, 3, 6, 1, 5, 5, 7, 11, 2)
+
+
+def other_malformed_rules():
+    """The octets of extensions that other standards have (RFC 6960 4.2.2.2.1, RFC 6962 3.1, RFC 7633 4, RFC 3739 3.2.6)."""
+    for oid, name, critical in ((OCSP_NO_CHECK, "ocspNoCheck", False), (POISON, "precertificatePoison", True)):
+        yield leaf_with(extension(oid, NULL, critical)), []
+        for octets in (b"", b"\5", b"\5\0\0", b"\5\1\0", b"\6\0", sequence(), sequence(NULL)):
+            yield leaf_with(extension(oid, octets, critical)), [malformed(name)]
+        yield leaf_with(extension(oid, NULL, critical), extension(oid, b"", critical)), [error("extension_repeated", "4.2"), malformed(name)]
+    for octets in (sequence(), sequence(integer(5)), sequence(integer(5), integer(17)), sequence(integer(2**70))):
+        yield leaf_with(pe(24, octets)), []
+    for octets in (b"", integer(5), sequence(octet_string(b"\5")), sequence(element(2, b"\0\5")), sequence(element(2)), sequence(integer(5)) + b"\0"):
+        yield leaf_with(pe(24, octets)), [malformed("tlsFeature")]
+    for octets in (sequence(), sequence(sequence(PAST)), sequence(sequence(PAST, NULL), sequence(POLICY, sequence(integer(1)))), sequence(sequence(LARGE_OIDS[0]))):
+        yield leaf_with(pe(3, octets)), []
+    for octets in (b"", sequence(PAST), sequence(sequence()), sequence(sequence(NULL)), sequence(sequence(PAST, NULL, NULL)), sequence(sequence(PAST)) + b"\0"):
+        yield leaf_with(pe(3, octets)), [malformed("qcStatements")]
+    for oid in (OCSP_NO_CHECK, POISON):
+        yield leaf_with(extension(oid, NULL, oid is OCSP_NO_CHECK)), [
+            of_standard("warning", "ocsp_no_check_critical", "RFC 6960", "4.2.2.2.1")
+            if oid is OCSP_NO_CHECK
+            else of_standard("error", "precertificate_poison_not_critical", "RFC 6962", "3.1")
+        ]
 
 
 # right, and more than the decoder holds: a UUID as an arc (X.667 6.3), 40 octets of arcs, and an x400Address with a country (RFC 5280 A.1)
@@ -326,33 +367,51 @@ X400_ADDRESS = context(3, sequence(element(0x61, element(PRINTABLE_STRING, b"DE"
 
 
 def beyond_rules():
-    """What RFC 5280 allows and the decoder doesn't hold, which isn't malformed; where it isn't such an OID or address, it is."""
+    """What RFC 5280 allows and the decoder doesn't hold, which isn't malformed and isn't judged; where it isn't such an OID or address, it's malformed."""
     held = element(6, b"\x2a" + b"\1" * 38), element(6, b"\x2a\x8f\xff\xff\xff\x7f")
     broken = element(6, b"\x2a\x80\1"), element(6, b"\x2a\x81"), element(6), element(6, b"\x2a\x90\x80\x80\x80\x80")
-    findings = {oid: [] for oid in (*LARGE_OIDS, *held)} | {oid: None for oid in broken}
 
-    def told(oid, name):
-        return findings[oid] if findings[oid] is not None else [malformed(name)]
+    def told(oid, name, rule, section):
+        if oid in held:
+            return []
+        return [malformed(name)] if oid in broken else [not_judged(rule, section)]
 
-    for oid in findings:
-        yield leaf_with(ce(37, sequence(oid))), told(oid, "extKeyUsage")
-        yield leaf_with(ce(32, sequence(sequence(oid)))), told(oid, "certificatePolicies")
-        yield leaf_with(ce(9, sequence(sequence(oid, set_of(NULL))))), told(oid, "subjectDirectoryAttributes")
-        yield leaf_with(pe(1, sequence(sequence(oid, URI)))), told(oid, "authorityInfoAccess")
-        yield leaf_with(ce(17, sequence(DNS, context(0, oid, context(0, NULL))))), told(oid, "subjectAltName")
-        yield leaf_with(ce(17, sequence(DNS, context(4, sequence(set_of(sequence(oid, element(UTF8_STRING, b"a")))))))), told(oid, "subjectAltName")
+    for oid in (*LARGE_OIDS, *held, *broken):
+        yield leaf_with(ce(37, sequence(oid))), told(oid, "extKeyUsage", "extended_key_usage_not_read", "4.2.1.12")
+        yield leaf_with(ce(32, sequence(sequence(oid)))), told(oid, "certificatePolicies", "certificate_policies_not_read", "4.2.1.4")
+        attributes = told(oid, "subjectDirectoryAttributes", "subject_directory_attributes_not_read", "4.2.1.8")
+        yield leaf_with(ce(9, sequence(sequence(oid, set_of(NULL))))), attributes
+        yield leaf_with(pe(1, sequence(sequence(oid, URI)))), told(oid, "authorityInfoAccess", "authority_info_access_not_read", "4.2.2.1")
+        yield ca_with(pe(11, sequence(sequence(oid, URI)))), told(oid, "subjectInfoAccess", "subject_info_access_not_read", "4.2.2.2")
+        names = told(oid, "subjectAltName", "subject_alt_name_not_read", "4.2.1.6")
+        yield leaf_with(ce(17, sequence(DNS, context(0, oid, context(0, NULL))))), names
+        yield leaf_with(ce(17, sequence(DNS, context(4, sequence(set_of(sequence(oid, element(UTF8_STRING, b"a")))))))), names
+    for oid in LARGE_OIDS:
+        yield ca_with(ce(32, sequence(sequence(POLICY))), ce(33, sequence(sequence(POLICY, oid)), True)), [not_judged("policy_mappings_not_read", "4.2.1.5")]
     # an address begins with a SEQUENCE
     for address, is_address in ((X400_ADDRESS, True), (context(3, NULL), False), (context(3), False)):
-        for number, name, payload in (
-            (17, "subjectAltName", sequence(DNS, address)),
-            (18, "issuerAltName", sequence(address, DNS)),
-            (31, "cRLDistributionPoints", sequence(POINT, sequence(context(0, context(0, address))))),
-            (46, "freshestCRL", sequence(POINT, sequence(context(0, context(0, address))))),
+        for number, name, rule, section, payload in (
+            (17, "subjectAltName", "subject_alt_name", "4.2.1.6", sequence(DNS, address)),
+            (18, "issuerAltName", "issuer_alt_name", "4.2.1.7", sequence(address, DNS)),
+            (31, "cRLDistributionPoints", "crl_distribution_points", "4.2.1.13", sequence(POINT, sequence(context(0, context(0, address))))),
+            (46, "freshestCRL", "freshest_crl", "4.2.1.15", sequence(POINT, sequence(context(0, context(0, address))))),
         ):
-            yield leaf_with(ce(number, payload)), [] if is_address else [malformed(name)]
-    yield ca_with(ce(30, sequence(context(0, sequence(X400_ADDRESS))), True)), []
-    yield leaf_with(pe(1, sequence(sequence(object_identifier(1, 3, 6, 1, 5, 5, 7, 48, 2), X400_ADDRESS)))), []
-    yield certificate(extensions=(ce(35, sequence(KEY_ID, context(1, X400_ADDRESS), implicit(2, b"\1"))), SKI, KU)), []
+            yield leaf_with(ce(number, payload)), [not_judged(f"{rule}_not_read", section)] if is_address else [malformed(name)]
+    yield ca_with(ce(30, sequence(context(0, sequence(X400_ADDRESS))), True)), [not_judged("name_constraints_not_read", "4.2.1.10")]
+    # what else is asked of such an extension
+    unread, place = not_judged("authority_info_access_not_read", "4.2.2.1"), object_identifier(1, 3, 6, 1, 5, 5, 7, 48, 2)
+    yield leaf_with(pe(1, sequence(sequence(place, X400_ADDRESS)))), [unread]
+    yield leaf_with(pe(1, sequence(sequence(place, X400_ADDRESS)), True)), [error("authority_info_access_critical", "4.2.2.1"), unread]
+    yield ca_with(ce(30, sequence(context(0, sequence(X400_ADDRESS))))), [
+        error("name_constraints_not_critical", "4.2.1.10"),
+        not_judged("name_constraints_not_read", "4.2.1.10"),
+    ]
+    unread = not_judged("authority_key_identifier_not_read", "4.2.1.1")
+    yield certificate(extensions=(ce(35, sequence(KEY_ID, context(1, X400_ADDRESS), implicit(2, b"\1"))), SKI, KU)), [unread]
+    # the first of two is read by itself, and none where there are two
+    yield leaf_with(ce(17, NAMES), ce(17, sequence(X400_ADDRESS))), [error("extension_repeated", "4.2"), not_judged("subject_alt_name_not_read", "4.2.1.6")]
+    # the octets of an address within an OCTET STRING that is read are none
+    yield certificate(extensions=(ce(35, sequence(implicit(0, X400_ADDRESS))), SKI, KU)), []
     for oid in LARGE_OIDS:
         yield leaf_with(ce(16, sequence(oid))), [malformed("privateKeyUsagePeriod")]
         yield certificate(extensions=(AKI, ce(14, oid), KU)), [malformed("subjectKeyIdentifier")]
@@ -484,6 +543,49 @@ URIS = (
 )
 
 
+# as an issuer may not be (RFC 5280 4.1.2.4, A.1; RFC 4519 2.4), and as it may
+ODD_NAMES = (
+    sequence(set_of()),
+    sequence(rdn((6, element(UTF8_STRING, b"DE")))),
+    sequence(rdn((3, element(IA5_STRING, b"a")))),
+    common_name(b"\xff"),
+    common_name(b""),
+    common_name(b"a" * 65),
+    sequence(rdn((3, element(UTF8_STRING, b"a"))), rdn((5, element(UTF8_STRING, b"a")))),
+    sequence(set_of(sequence(DOMAIN_COMPONENT, element(IA5_STRING, b"example.org")))),
+)
+RIGHT_NAMES = (ISSUER, common_name(b"a" * 64), sequence(rdn((6, element(PRINTABLE_STRING, b"DE"))), rdn((3, element(TELETEX_STRING, b"a")))))
+SRV_NAME, SMTP_MAILBOX = object_identifier(1, 3, 6, 1, 5, 5, 7, 8, 7), object_identifier(1, 3, 6, 1, 5, 5, 7, 8, 9)
+# of a service behind an underscore and a domain name (RFC 4985 2)
+SRV_TEXTS = (b"_mail.example.org", b"_a.b", b"_xmpp-server.a-b.example", b"_mail.*.example.org", b"_a." + b".".join([b"a" * 63] * 3) + b"." + b"a" * 61)
+NO_SRV_TEXTS = (b"", b"_", b"_.example.org", b"_mail", b"_mail.", b"mail.example.org", b"_imap._tcp.example.org", b"_a.-b", b"_a.b.", b"_a.b..c", b"_\xe4.example.org", b"__mail", b"_a." + b".".join([b"a" * 63] * 3) + b"." + b"a" * 62)
+# of a local part that isn't ASCII and of a domain that is (RFC 9598 3)
+MAILBOXES = ("\u00e4@example.org", "a\u4e2d.b@xn--a.example", "\u00e4@[192.0.2.1]", '"\u00e4@b"@example.org')
+NO_MAILBOXES = ("", "a@example.org", "\u00e4", "@example.org", "\u00e4@", "\u00e4@\u00e4.example", "a@\u00e4.example", "\u00e4@b@c.example", "\u00e4@-b", '"\u00e4"')
+
+
+def other_name(oid, value):
+    """An otherName (RFC 5280 4.2.1.6)."""
+    return context(0, oid, context(0, value))
+
+
+def other_names():
+    """For each directoryName, SRVName and SmtpUTF8Mailbox the rule that it breaks, and the standard with its section, where that isn't RFC 5280."""
+    for name in ODD_NAMES:
+        yield context(4, name), "directory_name_invalid", None
+    for name in RIGHT_NAMES:
+        yield context(4, name), None, None
+    for text in SRV_TEXTS:
+        yield other_name(SRV_NAME, element(IA5_STRING, text)), None, None
+    for value in (NULL, element(UTF8_STRING, SRV_TEXTS[0]), *(element(IA5_STRING, text) for text in NO_SRV_TEXTS)):
+        yield other_name(SRV_NAME, value), "srv_name_invalid", ("RFC 4985", "2")
+    for text in MAILBOXES:
+        yield other_name(SMTP_MAILBOX, element(UTF8_STRING, text.encode())), None, None
+    for value in (NULL, element(IA5_STRING, b"a@example.org"), element(UTF8_STRING, b"\xff@example.org"), *(element(UTF8_STRING, text.encode()) for text in NO_MAILBOXES)):
+        yield other_name(SMTP_MAILBOX, value), "smtp_utf8_mailbox_invalid", ("RFC 9598", "3")
+    yield other_name(POLICY, NULL), None, None
+
+
 def alternative_rules():
     """The alternative names of the subject and the issuer (RFC 5280 4.2.1.6, 4.2.1.7)."""
     for number, who, section in ((17, "subject", "4.2.1.6"), (18, "issuer", "4.2.1.7")):
@@ -540,6 +642,9 @@ def alternative_rules():
         yield with_names(implicit(6, b"http://a@b@c.example/")), [invalid, other_host]
         for text in (*URIS, *(b"http://[" + address + b"]" for address in ADDRESSES)):
             yield with_names(implicit(6, text)), []
+        for name, rule, standard in other_names():
+            told = f"{who}_alt_name_{rule}"
+            yield with_names(DNS, name), [] if rule is None else [of_standard("error", told, *standard) if standard else error(told, section)]
         for text in (b"*.example", b"a", b"A-1.example", b"a" * 63, b".".join([b"a" * 63] * 3) + b"." + b"a" * 61):
             yield with_names(implicit(2, text), implicit(7, bytes(4)), implicit(7, bytes(16))), []
 
@@ -595,12 +700,33 @@ def policy_rules():
     yield leaf_with(ce(32, sequence(sequence(POLICY, sequence(sequence(NOTICE, reference)))))), [warning("notice_reference_present", "4.2.1.4")]
     pointer, other = sequence(CPS, element(IA5_STRING, b"http://example.org/")), sequence(object_identifier(1, 2, 3), NULL)
     yield leaf_with(ce(32, sequence(sequence(ANY_POLICY, sequence(pointer, other))))), [error("any_policy_qualifier_invalid", "4.2.1.4")]
-    yield leaf_with(ce(32, sequence(sequence(ANY_POLICY, sequence(pointer, sequence(NOTICE, sequence()))), sequence(POLICY, sequence(other))))), []
+    further = [warning("policy_qualifier_other", "4.2.1.4")]
+    yield leaf_with(ce(32, sequence(sequence(ANY_POLICY, sequence(pointer, sequence(NOTICE, sequence()))), sequence(POLICY, sequence(other))))), further
+    yield leaf_with(ce(32, sequence(sequence(POLICY, sequence(pointer, sequence(NOTICE, sequence())))))), []
+    yield leaf_with(ce(32, sequence(sequence(POLICY, sequence(pointer, sequence(object_identifier(1, 3, 6, 1, 5, 5, 7, 2, 3))))))), further
     long = element(UTF8_STRING, b"a" * 201)
-    behind = sequence(sequence(CPS, element(IA5_STRING, b"a" * 201)), sequence(NOTICE, sequence()), sequence(NOTICE, sequence(long)))
+    behind = sequence(sequence(CPS, element(IA5_STRING, b"urn:" + b"a" * 201)), sequence(NOTICE, sequence()), sequence(NOTICE, sequence(long)))
     yield leaf_with(ce(32, sequence(sequence(ANY_POLICY), sequence(POLICY, behind)))), [error("explicit_text_too_long", "4.2.1.4")]
-    yield leaf_with(ce(32, sequence(sequence(POLICY, sequence(sequence(CPS, sequence(long))))))), []
-    yield leaf_with(ce(32, sequence(sequence(POLICY, sequence(sequence(NOTICE, long)))))), []
+
+    def with_qualifier(oid, *payload, policy=POLICY):
+        return leaf_with(ce(32, sequence(sequence(policy, sequence(sequence(oid, *payload))))))
+
+    no_pointer, no_uri, no_notice = (error(name, "4.2.1.4") for name in ("cps_pointer_malformed", "cps_pointer_not_uri", "user_notice_malformed"))
+    for payload in ((), (NULL,), (sequence(long),), (element(UTF8_STRING, b"http://example.org/"),), (element(IA5_STRING, b"http://example.org/\xe4"),)):
+        yield with_qualifier(CPS, *payload), [no_pointer]
+    for text in (b"", b"example.org", b"/cps", b"1a:b", b"http//example.org", b":a", b"www.example.org/a:b", *INVALID_URIS):
+        yield with_qualifier(CPS, element(IA5_STRING, text), policy=ANY_POLICY), [no_uri]
+    for text in (*URIS, b"http:", b"http://localhost/"):
+        yield with_qualifier(CPS, element(IA5_STRING, text)), []
+    organization = element(UTF8_STRING, b"a")
+    for payload in ((), (NULL,), (long,), (sequence(NULL),), (sequence(long, long),), (sequence(element(TELETEX_STRING, b"a")),), (sequence(sequence()),),
+                    (sequence(element(UTF8_STRING, b"\xff")),), (sequence(element(BMP_STRING, b"\0a\0")),), (sequence(element(VISIBLE_STRING, b"\n")),),
+                    (sequence(sequence(organization, sequence(organization))),)):
+        yield with_qualifier(NOTICE, *payload), [no_notice]
+    yield leaf_with(ce(32, sequence(sequence(POLICY, sequence(sequence(NOTICE, sequence()), pointer)), sequence(ANY_POLICY, sequence(sequence(CPS), sequence(NOTICE)))))), [
+        no_pointer,
+        no_notice,
+    ]
     yield ca_with(ce(33, sequence(), True)), [error("policy_mappings_empty", "4.2.1.5")]
     asserted = ce(32, sequence(sequence(POLICY), sequence(ANY_POLICY)))
     yield ca_with(asserted, ce(33, sequence(sequence(POLICY, ANY_POLICY)), True)), [error("policy_mapping_any_policy", "4.2.1.5")]
@@ -678,13 +804,17 @@ def point_rules():
     """Lists of attributes, of CRL distribution points and of access descriptions (RFC 5280 4.2.1.8, 4.2.1.13, 4.2.1.15, 4.2.2)."""
     reasons, issuer = sequence(implicit(1, b"\6\x40")), sequence(context(2, context(4, common_name(b"Another"))))
     yield leaf_with(ce(9, sequence())), [error("subject_directory_attributes_empty", "4.2.1.8")]
+    country = object_identifier(1, 3, 6, 1, 5, 5, 7, 9, 4)
+    yield leaf_with(ce(9, sequence(sequence(country, set_of(NULL)), sequence(POLICY, set_of())))), [error("subject_directory_attribute_values_empty", "A.1")]
     yield leaf_with(ce(31, sequence())), [error("crl_distribution_points_empty", "4.2.1.13")]
     yield leaf_with(ce(31, sequence(POINT, reasons))), [error("distribution_point_empty", "4.2.1.13")]
     yield leaf_with(ce(31, sequence(issuer))), []
     relative = sequence(context(0, context(1, sequence(object_identifier(2, 5, 4, 3), element(UTF8_STRING, b"a")))))
     yield leaf_with(ce(31, sequence(POINT, relative))), [warning("distribution_point_relative", "4.2.1.13")]
-    for name in (implicit(6, b"https://example.org/"), implicit(6, b"ftp://example.org/"), implicit(6, b"http"), DNS, context(4, ISSUER)):
-        yield leaf_with(ce(31, sequence(POINT, sequence(context(0, context(0, name)))))), [warning("distribution_point_without_uri", "4.2.1.13")]
+    without_uri, no_uri = warning("distribution_point_without_uri", "4.2.1.13"), of_standard("error", "distribution_point_uri_invalid", "RFC 3986", "3")
+    for name in (implicit(6, b"https://example.org/"), implicit(6, b"ftp://example.org/"), DNS, context(4, ISSUER)):
+        yield leaf_with(ce(31, sequence(POINT, sequence(context(0, context(0, name)))))), [without_uri]
+    yield leaf_with(ce(31, sequence(POINT, sequence(context(0, context(0, implicit(6, b"http"))))))), [without_uri, no_uri]
     for name in (implicit(6, b"HTTP://example.org/"), implicit(6, b"ldap://example.org/cn=a?b"), implicit(6, b"lDaP://a/b?c")):
         yield leaf_with(ce(31, sequence(sequence(context(0, context(0, DNS, name)))))), []
     yield leaf_with(ce(31, sequence(sequence(context(2, context(4, common_name(b"Another")), DNS))))), [error("distribution_point_issuer_invalid", "4.2.1.13")]
@@ -708,6 +838,11 @@ def point_rules():
         yield from ldap_rules(name, section, with_uri)
         for attributes in (b"a,b", b"a,", b","):
             yield with_uri(b"ldap://a.example/cn=a?" + attributes), [error(f"{name}_ldap_incomplete", section)]
+        yield from uri_rules(f"{name}_uri_invalid", with_uri)
+        empty = error(f"{name}_names_empty", section)
+        yield leaf_with(ce(number, sequence(POINT, sequence(context(0, context(0)))))), [empty, warning(f"{name}_without_uri", section)]
+        yield leaf_with(ce(number, sequence(POINT, sequence(context(0, context(1)))))), [empty, warning(f"{name}_relative", section)]
+        yield leaf_with(ce(number, sequence(POINT, sequence(context(2))))), [empty]
     yield leaf_with(ce(46, sequence(POINT, relative))), [warning("freshest_crl_point_relative", "4.2.1.15")]
     yield leaf_with(ce(46, sequence(POINT, sequence(context(0, context(0, DNS)))))), [warning("freshest_crl_point_without_uri", "4.2.1.15")]
     yield leaf_with(ce(46, sequence(sequence(context(2, context(4, common_name(b"Another")), DNS))))), [error("freshest_crl_point_issuer_invalid", "4.2.1.15")]
@@ -721,17 +856,39 @@ def point_rules():
         place, ocsp = object_identifier(1, 3, 6, 1, 5, 5, 7, 48, method), object_identifier(1, 3, 6, 1, 5, 5, 7, 48, 1)
         yield ca_with(pe(number, sequence(sequence(place, DNS), sequence(ocsp, URI)))), [warning(name, section)]
         yield ca_with(pe(number, sequence(sequence(place, DNS), sequence(place, URI)))), []
-        yield ca_with(pe(number, sequence(sequence(ocsp, DNS)))), []
+        yield ca_with(pe(number, sequence(sequence(POLICY, DNS)))), []
+        for others in ((), (sequence(place, URI),)):
+            told = [of_standard("error", "ocsp_location_not_uri", "RFC 6960", "3.1")] if number == 1 else []
+            yield ca_with(pe(number, sequence(sequence(ocsp, DNS), *others))), told
+        for places in ((URI,), (DNS, URI)):
+            yield ca_with(pe(number, sequence(*(sequence(ocsp, it) for it in places)))), []
 
     def with_place(text, number=2):
         other = object_identifier(1, 3, 6, 1, 5, 5, 7, 48, number)
         return leaf_with(pe(1, sequence(sequence(object_identifier(1, 3, 6, 1, 5, 5, 7, 48, 2), URI), sequence(other, implicit(6, text)))))
 
+    for number, name in ((1, "authority_info_access_uri_invalid"), (11, "subject_info_access_uri_invalid")):
+        def with_access(text, number=number):
+            return ca_with(pe(number, sequence(sequence(object_identifier(1, 3, 6, 1, 5, 5, 7, 48, 3), implicit(6, text)))))
+
+        yield from uri_rules(name, with_access)
+    yield leaf_with(pe(1, sequence(sequence(object_identifier(1, 3, 6, 1, 5, 5, 7, 48, 1), implicit(6, b"ocsp.example.org"))))), [
+        of_standard("error", "authority_info_access_uri_invalid", "RFC 3986", "3")
+    ]
     yield from ldap_rules("ca_issuers", "4.2.2.1", with_place)
     for attributes in (b"a,", b",a", b",", b"a,,b"):
         yield with_place(b"ldap://a.example/cn=a?" + attributes), [error("ca_issuers_ldap_incomplete", "4.2.2.1")]
     yield with_place(b"ldap://a.example/cn=a?a;binary,b;binary"), []
     yield with_place(b"ldap:a", 1), []
+
+
+def uri_rules(name, with_uri):
+    """URIs (RFC 3986 3), which begin with a scheme, in places where any is allowed."""
+    without_scheme = b"", b"example.org", b"/a", b"//example.org/a", b"1a:b", b":a", b"a_b:c", b"?a:b", b"#a:b", b"a/b:c"
+    for text in (*without_scheme, b"http://a.example/[", b"http://a.example/a b", b"urn:%4", b"http://[::1"):
+        yield with_uri(text), [of_standard("error", name, "RFC 3986", "3")]
+    for text in (b"http:", b"a:", b"A+b-c.1:d", b"urn:a:b", b"http://localhost/", b"http://[::1]:80/a%20b?c#d"):
+        yield with_uri(text), []
 
 
 def ldap_rules(name, section, with_uri):
@@ -858,6 +1015,8 @@ def crl_field_rules():
     yield crl(version=integer(2)), [error("extensions_without_v2", "5.1.2.1"), error("version_not_v2", "5.1.2.1")]
     yield crl(issuer=sequence()), [error("issuer_empty", "5.1.2.3")]
     yield crl(issuer=sequence(rdn())), [error("issuer_rdn_empty", "5.1.2.3")]
+    twice = sequence(rdn((10, element(UTF8_STRING, b"a")), (10, element(UTF8_STRING, b"b"))))
+    yield crl(issuer=twice), [of_standard("error", "issuer_rdn_type_repeated", "X.501", "9.3")]
     yield crl(issuer=sequence(rdn((6, element(PRINTABLE_STRING, b"DEU"))))), [error("issuer_country_name_invalid", "A.1")]
     for text, findings in texts("issuer", "5.1.2.3"):
         yield crl(issuer=sequence(text)), findings
@@ -920,6 +1079,12 @@ def crl_extension_rules():
     for descriptions in (sequence(), sequence(sequence(ocsp, URI)), sequence(sequence(ca_issuers, URI), sequence(ocsp, URI))):
         yield crl_with(pe(1, descriptions)), [error("authority_info_access_other_method", "5.2.7")]
     yield crl_with(pe(1, sequence(sequence(ca_issuers, DNS)))), [warning("ca_issuers_without_uri", "5.2.7")]
+    address = context(0, context(0, X400_ADDRESS))
+    yield crl_with(pe(1, sequence(sequence(ca_issuers, X400_ADDRESS)))), [not_judged("authority_info_access_not_read", "5.2.7")]
+    yield crl_with(ce(28, sequence(address), True)), [not_judged("issuing_distribution_point_not_read", "5.2.5")]
+    yield crl_with(ce(46, sequence(sequence(address)))), [not_judged("freshest_crl_not_read", "5.2.6")]
+    unread = ce(35, sequence(KEY_ID, context(1, X400_ADDRESS), implicit(2, b"\1")))
+    yield crl(extensions=(unread, CRL_NUMBER)), [not_judged("authority_key_identifier_not_read", "5.2.1")]
 
 
 def crl_entry_rules():
@@ -984,6 +1149,8 @@ def csr_rules():
     yield csr(), []
     yield csr(extensions=(san, KU, OTHER)), []
     yield csr(subject=sequence(set_of())), [error("subject_rdn_empty", "4.1.2.6")]
+    twice = sequence(rdn((10, element(UTF8_STRING, b"a")), (10, element(UTF8_STRING, b"b"))))
+    yield csr(subject=twice), [of_standard("error", "subject_rdn_type_repeated", "X.501", "9.3")]
     yield csr(subject=sequence(rdn((6, element(UTF8_STRING, b"DE"))))), [error("subject_country_name_invalid", "A.1")]
     yield csr(subject=sequence(rdn((3, element(IA5_STRING, b"a"))))), [error("subject_text_type", "A.1")]
     yield csr(subject=sequence(rdn((3, element(TELETEX_STRING, b"a"))))), [warning("subject_text_old_type", "4.1.2.6")]
@@ -1029,8 +1196,10 @@ def csr_rules():
     place = "certificationRequestInfo.attributes.extensionRequest"
     for number, name in EXTENSIONS:
         yield csr(extensions=(ce(number, NULL),)), [f"{error('extension_malformed', '4.2')}: {place}.{name}"]
-    for number, name in ((1, "authorityInfoAccess"), (11, "subjectInfoAccess")):
+    for number, name in ((1, "authorityInfoAccess"), (11, "subjectInfoAccess"), (3, "qcStatements"), (24, "tlsFeature")):
         yield csr(extensions=(pe(number, NULL),)), [f"{error('extension_malformed', '4.2')}: {place}.{name}"]
+    for oid, name in ((OCSP_NO_CHECK, "ocspNoCheck"), (POISON, "precertificatePoison")):
+        yield csr(extensions=(extension(oid, b""),)), [f"{error('extension_malformed', '4.2')}: {place}.{name}"]
     for names, rule in (
         (sequence(), "subject_alt_name_empty"),
         (sequence(implicit(2, b"")), "subject_alt_name_empty_name"),
@@ -1043,6 +1212,12 @@ def csr_rules():
         (sequence(implicit(6, b"http://localhost/")), "subject_alt_name_uri_host_invalid"),
     ):
         yield csr(extensions=(ce(17, names),)), [error(rule, "4.2.1.6")]
+    yield csr(extensions=(ce(17, sequence(X400_ADDRESS)),)), [not_judged("subject_alt_name_not_read", "4.2.1.6")]
+    for name, rule, standard in other_names():
+        told = f"subject_alt_name_{rule}"
+        yield csr(extensions=(ce(17, sequence(name)),)), [] if rule is None else [of_standard("error", told, *standard) if standard else error(told, "4.2.1.6")]
+    for text, findings in ((b"a", []), (b"a.b", [of_standard("error", "subject_domain_component_invalid", "RFC 4519", "2.4")])):
+        yield csr(subject=sequence(set_of(sequence(DOMAIN_COMPONENT, element(IA5_STRING, text))))), findings
 
 
 NAME, OTHER_KEY = common_name(b"An anchor"), sequence(EC_P256, bit_string(b"\x04" + bytes(63) + b"\1"))
@@ -1081,10 +1256,14 @@ def anchor_rules():
     yield controlled(), []
     yield controlled(name=sequence()), [of_5914("ta_name_empty", "2.5")]
     yield controlled(name=sequence(set_of())), [error("ta_name_rdn_empty", "4.1.2.4")]
+    twice = sequence(rdn((10, element(UTF8_STRING, b"a")), (10, element(UTF8_STRING, b"b"))))
+    yield controlled(name=twice), [of_standard("error", "ta_name_rdn_type_repeated", "X.501", "9.3")]
     yield controlled(name=sequence(rdn((6, element(UTF8_STRING, b"DE"))))), [error("ta_name_country_name_invalid", "A.1")]
     yield controlled(name=sequence(rdn((3, element(IA5_STRING, b"a"))))), [error("ta_name_text_type", "A.1")]
     yield controlled(name=sequence(rdn((3, element(TELETEX_STRING, b"a"))))), [warning("ta_name_text_old_type", "4.1.2.4")]
     yield controlled(name=common_name(b"\xff")), [error("ta_name_text_characters", "4.1.2.4")]
+    for text, findings in ((b"a", []), (b"a.b", [of_standard("error", "ta_name_domain_component_invalid", "RFC 4519", "2.4")])):
+        yield controlled(name=sequence(set_of(sequence(DOMAIN_COMPONENT, element(IA5_STRING, text))))), findings
     for count, findings in ((0, [error("ta_name_text_size", "A.1")]), (64, []), (65, [error("ta_name_text_size", "A.1")])):
         yield controlled(name=common_name(b"a" * count)), findings
     yield from anchor_certificate_rules()
@@ -1149,8 +1328,10 @@ def anchor_extension_rules():
     for number, name in EXTENSIONS:
         others = [of_5914(misplaced[number], "2.6")] if number in misplaced else []
         yield anchor(exts=(ce(number, NULL),)), [*others, f"{error('extension_malformed', '4.2')}: taInfo.exts.{name}"]
-    for number, name in ((1, "authorityInfoAccess"), (11, "subjectInfoAccess")):
+    for number, name in ((1, "authorityInfoAccess"), (11, "subjectInfoAccess"), (3, "qcStatements"), (24, "tlsFeature")):
         yield anchor(exts=(pe(number, NULL),)), [f"{error('extension_malformed', '4.2')}: taInfo.exts.{name}"]
+    for oid, name in ((OCSP_NO_CHECK, "ocspNoCheck"), (POISON, "precertificatePoison")):
+        yield anchor(exts=(extension(oid, b""),)), [f"{error('extension_malformed', '4.2')}: taInfo.exts.{name}"]
 
 
 def anchors_of_certificates():
@@ -1178,10 +1359,20 @@ CERTIFICATE_RULES = (
     point_rules,
     public_key_rules,
 )
-USAGE = "usage: x509_linter [certificate|crl|csr|anchor] [-v|--json] [FILE..]\n       x509_linter --web [-v|--json] MOMENT [FILE..]\n"
+USAGE = (
+    "usage: x509_linter [certificate|crl|csr|anchor] [-v] [--json] [CHOICE..] [FILE..]\n"
+    "       x509_linter --web [-v] [--json] [CHOICE..] MOMENT [FILE..]\n"
+)
 WEB_HELP = """  --web                          tells which rules of the Baseline Requirements of the
                                  CA/Browser Forum certificates break, of those in force at
-                                 MOMENT, as 2026-03-15T00:00:00Z
+                                 MOMENT, as 2026-03-15T00:00:00Z, or 2026-03-15 for that
+"""
+CHOICE_HELP = """  --only RULE, --without RULE    reports findings of these rules alone, or none of these; each
+                                 may stand several times, and RULE is a name as it is printed
+  --level error|warning|notice   from which severity on a finding makes status 1: an error, a
+                                 warning too, or also what isn't judged
+  --count                        prints each line once for all inputs, behind how often it
+                                 stands there
 """
 NO_OBJECT = "not a certificate, CRL, CSR or trust anchor in DER, PEM or hex"
 KINDS = {"certificate": "a certificate", "crl": "a CRL", "csr": "a CSR", "anchor": "a trust anchor"}
@@ -1213,6 +1404,8 @@ def runs():
     yield "hex", [], digits.encode(), line, 1
     yield "upper-case hex", [], digits.upper().encode() + b"\r\n", line, 1
     yield "hex in lines", [], "\n".join(digits[at : at + 60] for at in range(0, len(digits), 60)).encode() + b"\n", line, 1
+    yield "hex with colons", [], odd.hex(":").encode(), line, 1
+    yield "hex with colons in lines", [], "".join(f"    {odd[at : at + 18].hex(':')}:\n" for at in range(0, len(odd), 18)).encode(), line, 1
     clean = certificate()
     yield "nothing found, and said so", ["-v"], clean, "nothing found\n", 0
     yield "findings, and no more is said", ["-v"], odd, line, 1
@@ -1283,6 +1476,90 @@ def json_runs():
         yield f"JSON of an anchor that is a {name}", ["anchor", "--json"], data, number, 1
 
 
+def result(file, said, **members):
+    """What is printed of an input without findings by `-v` and `--json`, as a line of JSON."""
+    return json.dumps({"file": file, "result": said, **members}, ensure_ascii=False) + "\n"
+
+
+def verbose_json(program):
+    """For each run with `-v` and `--json` a name, whether it ended as stated, and how it ended."""
+    odd, moment = certificate(serial=integer(0)), "2026-03-15T00:00:00Z"
+    number = "certificate", "serial_number_not_positive", "error", "RFC 5280 4.1.2.2", "tbsCertificate.serialNumber", "00"
+    for words in (["-v", "--json"], ["--json", "-v"], ["certificate", "--json", "-v"]):
+        found = ended(program, words, certificate())
+        yield f"the words {words}", found == (0, result("standard input", "nothing found"), ""), found
+        found = ended(program, words, odd)
+        yield f"the words {words}, and a finding", found == (1, told("standard input", *number), ""), found
+    for words in (["--web", "-v", "--json", moment], ["-v", "--web", "--json", moment], ["--json", "-v", "--web", moment]):
+        given = [*words, "--only", "serial_number_not_positive"]
+        found = ended(program, given, certificate())
+        yield f"the words {given}", found == (0, result("standard input", "no rule applies"), ""), found
+        given = [*words, "--only", "signature_of_sha1"]
+        found = ended(program, given, certificate())
+        yield f"the words {given}", found == (0, result("standard input", "nothing found"), ""), found
+    with tempfile.TemporaryDirectory() as folder:
+        paths = [f'{folder}/a "quoted" name', f"{folder}/none", f"{folder}/chain.pem", f"{folder}/empty"]
+        pem = [next(pem_of(data)) for data in (certificate(), odd)]
+        for path, data in ((paths[0], certificate()), (paths[2], pem[0] + PEM_OF_NOTHING + pem[1]), (paths[3], b"")):
+            pathlib.Path(path).write_bytes(data)
+        lines = [
+            result(paths[0], "nothing found"),
+            result(paths[1], "refused", reason="no such file"),
+            result(f"{paths[2]}, object 1", "nothing found"),
+            result(f"{paths[2]}, object 2", "refused", reason=NO_OBJECT),
+            told(f"{paths[2]}, object 3", *number),
+            result(paths[3], "refused", reason=f"{NO_OBJECT}; it is empty"),
+        ]
+        said = [f"{paths[1]}: no such file", f"{paths[2]}, object 2: {NO_OBJECT}", f"{paths[3]}: {NO_OBJECT}; it is empty"]
+        said = "".join(f"x509_linter: {it}\n" for it in said)
+        found = ended(program, ["-v", "--json", *paths])
+        yield "several files with -v and --json", found == (2, "".join(lines), said), found
+        found = ended(program, ["--json", *paths])
+        yield "several files with --json, some refused", found == (2, lines[4], said), found
+        only = ["--only", "serial_number_not_positive"]
+        found = ended(program, ["-v", "--json", *only, *paths])
+        yield "several files with -v, --json and --only", found == (2, "".join(lines), said), found
+        found = ended(program, ["-v", "--json", "crl", paths[0]])
+        yield "no CRL, with -v and --json", found[:2] == (2, result(paths[0], "refused", reason="not a CRL in DER, PEM or hex")), found
+    with open("/dev/full", "wb") as full:
+        found = ended(program, ["-v", "--json"], certificate(), stdout=full)
+        yield "a full output, with -v and --json", found == (2, "", "x509_linter: standard input: the output can't be written\n"), found
+
+
+def no_rule(program):
+    """For each run with `-v` a name, whether it says as stated that no rule applies, and how it ended."""
+    serial = "serial_number_not_positive"
+    for words, data, says in (
+        (["-v", "--only", serial, "--without", serial], certificate(), "no rule applies"),
+        (["-v", "--only", serial], certificate(), "nothing found"),
+        (["-v", "--only", "crl_number_absent"], certificate(), "nothing found"),
+        (["certificate", "-v", "--only", "crl_number_absent"], certificate(), "no rule applies"),
+        (["crl", "-v", "--only", "crl_number_absent"], crl(), "nothing found"),
+        (["crl", "-v", "--only", serial], crl(), "no rule applies"),
+        (["csr", "-v", "--only", serial], csr(), "no rule applies"),
+        (["csr", "-v", "--only", "subject_text_size"], csr(), "nothing found"),
+        (["anchor", "-v", "--only", "ta_title_size"], anchor(), "nothing found"),
+        (["anchor", "-v", "--only", serial], certificate(), "nothing found"),
+        (["anchor", "-v", "--only", "crl_number_absent"], anchor(), "no rule applies"),
+        (["--web", "-v", "--only", serial, "2026-03-15"], certificate(), "no rule applies"),
+        (["--web", "-v", "--only", "signature_of_sha1", "2026-03-15"], certificate(), "nothing found"),
+        (["-v", "--only", "signature_of_sha1"], certificate(), "no rule applies"),
+        (["-v", "--level", "warning"], certificate(), "nothing found"),
+    ):
+        found = ended(program, words, data)
+        yield f"the words {words}", found == (0, says + "\n", ""), found
+
+
+def no_option(option):
+    """What is told above the usage of an option that is none."""
+    return f"x509_linter: no such option: {option}\n"
+
+
+def twice(option):
+    """What is told above the usage of an option that stands twice."""
+    return f"x509_linter: stands twice: {option}\n"
+
+
 def refused(program):
     """For each run over what is no object a name, whether it ended as stated, and how it ended."""
     odd = certificate(serial=integer(0))
@@ -1296,14 +1573,12 @@ def refused(program):
     ):
         found = ended(program, [], data)
         yield name, found == (2, "", f"x509_linter: standard input: {NO_OBJECT}\n"), found
-    for name, words in (
-        ("-v twice", ["-v", "-v"]),
-        ("two options", ["-v", "--json"]),
-        ("--json twice", ["--json", "--json"]),
-        ("-v with more behind it", ["-vv"]),
-    ):
+    for words, option in ((["-v", "-v"], "-v"), (["--json", "--json"], "--json"), (["-v", "--json", "-v"], "-v"), (["--json", "-v", "-v", "--json"], "--json")):
         found = ended(program, words, odd)
-        yield name, found == (2, "", USAGE), found
+        yield f"the words {words}", found == (2, "", twice(option) + USAGE), found
+    for words, option in ((["-vv"], "-vv"), (["-v", "-x", "--only=a"], "-x"), (["a\nb", "-a\nb"], "(a word with control characters)")):
+        found = ended(program, words, odd)
+        yield f"the words {words}", found == (2, "", no_option(option) + USAGE), found
     for kind, data in (("certificate", crl()), ("crl", csr()), ("csr", anchor()), ("anchor", csr())):
         found = ended(program, [kind], data)
         yield f"no {kind}", found == (2, "", f"x509_linter: standard input: not {KINDS[kind]} in DER, PEM or hex\n"), found
@@ -1338,8 +1613,17 @@ def at_moments(program):
     ):
         found = ended(program, words, given)
         yield name, found == (1, line, ""), found
+    for name, words in (("a date with --web", ["--web", "2026-03-15"]), ("a date, --web and a choice", ["2026-03-15", "--only", "a", "--web"])):
+        words = [it if it != "a" else "subject_alt_name_absent" for it in words]
+        found = ended(program, words, data)
+        wanted = line if "--only" not in words else "certificate: error subject_alt_name_absent (TLS BR 7.1.2.7.12)\n"
+        yield name, found == (1, wanted, ""), found
+    found = ended(program, ["--web", "2023-09-14"], data)
+    yield "an early date", found == (1, early, ""), found
+    found = ended(program, ["--web", "2026-02-29"], data)
+    refusal = "x509_linter: not a moment, as 2026-03-15T00:00:00Z is one: 2026-02-29T00:00:00Z\n"
+    yield "a date that isn't one", found == (*usage[:2], refusal + usage[2]), found
     for text in (
-        "2026-03-15",
         "2026-03-15T00:00:00",
         "2026-02-29T00:00:00Z",
         "2026-03-15T24:00:00Z",
@@ -1357,9 +1641,12 @@ def at_moments(program):
     for words in (["--web"], ["--web", "-v"]):
         found = ended(program, words, data)
         yield f"the words {words}", found == (*usage[:2], "x509_linter: --web stands without a moment\n" + usage[2]), found
-    for words in (["--web", "--web", moment], ["--web", "-v", "--json", moment], ["--web", "-x", moment], ["--web=" + moment]):
+    for words, option in ((["--web", "--web", moment], "--web"), (["--web", "-v", "-v", moment], "-v"), (["--json", "--web", moment, "--json"], "--json")):
         found = ended(program, words, data)
-        yield f"the words {words}", found == usage, found
+        yield f"the words {words}", found == (*usage[:2], twice(option) + usage[2]), found
+    for words, option in ((["--web", "-x", moment], "-x"), (["--web=" + moment], "--web=" + moment)):
+        found = ended(program, words, data)
+        yield f"the words {words}", found == (*usage[:2], no_option(option) + usage[2]), found
     for name, other in (("CRL", crl()), ("CSR", csr()), ("trust anchor", anchor())):
         found = ended(program, ["--web", moment], other)
         yield f"a {name} with --web", found == (2, "", "x509_linter: standard input: not a certificate in DER, PEM or hex\n"), found
@@ -1376,13 +1663,156 @@ def at_moments(program):
         yield "several files with --web and --json", (status, said) == (1, "") and all(told(path, *finding) in lines for path in paths), text
 
 
+def choices(program):
+    """For each run with `--only`, `--without` and `--level` a name, whether it ended as stated, and how it ended."""
+    found = ended(program, ["--help"])
+    yield "help that has the choices", CHOICE_HELP in found[1], found
+    # an error and a warning; a warning alone; what isn't judged alone
+    both = certificate(serial=integer(0), extensions=(AKI, SKI, ce(15, DIGITAL_SIGNATURE)))
+    bad = "certificate: error serial_number_not_positive (RFC 5280 4.1.2.2)\n"
+    weak = "certificate: warning key_usage_not_critical (RFC 5280 4.2.1.3)\n"
+    warned = certificate(extensions=(AKI, SKI, ce(15, DIGITAL_SIGNATURE)))
+    unread = certificate(extensions=(AKI, SKI, CA_KU, ce(19, sequence(TRUE, integer(256)), True)))
+    unread_line = f"certificate: {not_judged('path_len_above_255', '4.2.1.9')}\n"
+    serial, usage, rule = "serial_number_not_positive", "key_usage_not_critical", "path_len_above_255"
+    for words, data, wanted in (
+        (["--only", serial], both, (1, bad)),
+        (["--only=" + serial], both, (1, bad)),
+        (["--only", usage], both, (0, weak)),
+        (["--only", usage, "--only", serial], both, (1, bad + weak)),
+        (["--only", "serial_number_too_long"], both, (0, "")),
+        (["--only", "serial_number_too_long", "-v"], both, (0, "nothing found\n")),
+        (["--without", serial], both, (0, weak)),
+        (["--without", usage], both, (1, bad)),
+        (["--without", usage, "--without=" + serial], both, (0, "")),
+        (["--only", serial, "--without", serial], both, (0, "")),
+        (["certificate", "--only", serial, "-"], both, (1, bad)),
+        (["--only", serial, "certificate"], both, (1, bad)),
+        (["--level", "error"], both, (1, bad + weak)),
+        (["--level", "error"], warned, (0, weak)),
+        (["--level", "warning"], warned, (1, weak)),
+        (["--level=notice"], warned, (1, weak)),
+        (["--level", "warning", "--without", usage], warned, (0, "")),
+        (["--level", "warning", "--level", "error"], warned, (1, weak)),
+        (["--level", "warning"], unread, (0, unread_line)),
+        (["--level", "notice"], unread, (1, unread_line)),
+        (["--level", "notice", "--only", rule], unread, (1, unread_line)),
+        (["--level", "notice"], certificate(), (0, "")),
+    ):
+        found = ended(program, words, data)
+        yield f"the words {words}", found == (*wanted, ""), f"{found}, and not {wanted}"
+    usage_line = told("standard input", "certificate", usage, "warning", "RFC 5280 4.2.1.3", "tbsCertificate.extensions.keyUsage")
+    number = told("standard input", "certificate", serial, "error", "RFC 5280 4.1.2.2", "tbsCertificate.serialNumber", "00")
+    for words, wanted in (
+        (["--json", "--only", usage], (0, usage_line)),
+        (["--json", "--without", usage], (1, number)),
+        (["--level", "warning", "--json", "--only", usage], (1, usage_line)),
+        (["--json", "--level", "notice"], (1, number + usage_line)),
+    ):
+        found = ended(program, words, both)
+        yield f"the words {words}", found == (*wanted, ""), f"{found}, and not {wanted}"
+    status, text, said = ended(program, ["--web", "--only", "common_name_present", "2026-03-15T00:00:00Z"], certificate())
+    wanted = (0, "certificate: warning common_name_present (TLS BR 7.1.2.7)\n", "")
+    yield "--web and --only", (status, text, said) == wanted, (status, text, said)
+    with tempfile.TemporaryDirectory() as folder:
+        paths = [f'{folder}/a "quoted" name', f"{folder}/--only", f"{folder}/third"]
+        for path, data in zip(paths, (both, both, warned)):
+            pathlib.Path(path).write_bytes(data)
+        found = ended(program, ["--only", serial, *paths])
+        yield "several files with --only", found == (1, "".join(f"{path}:\n{bad}" for path in paths[:2]), ""), found
+        found = ended(program, ["--json", "--only", serial, *paths])
+        lines = "".join(told(path, "certificate", serial, "error", "RFC 5280 4.1.2.2", "tbsCertificate.serialNumber", "00") for path in paths[:2])
+        yield "several files with --only and --json", found == (1, lines, ""), found
+        found = ended(program, ["--level", "warning", paths[2], f"{folder}/none"])
+        yield "a file that is missing, with --level", found == (2, f"{paths[2]}:\n{weak}", f"x509_linter: {folder}/none: no such file\n"), found
+    for words, what in (
+        (["--only", "no_rule"], "no such rule: --only=no_rule"),
+        (["--without", "Serial_number_not_positive"], "no such rule: --without=Serial_number_not_positive"),
+        (["--only="], "no such rule: --only="),
+        (["--only", ""], "no such rule: --only="),
+        (["--only", serial, "--without", "-v"], "no such rule: --without=-v"),
+        (["--web", "--only", "no_rule", "2026-03-15T00:00:00Z"], "no such rule: --only=no_rule"),
+        (["--only", "a\nb"], "no such rule: (a word with control characters)"),
+        (["--level", "fatal"], "no such level, as error, warning and notice are: --level=fatal"),
+        (["--level", "not judged"], "no such level, as error, warning and notice are: --level=not judged"),
+        (["--only"], "nothing stands behind --only"),
+        (["-v", "--level"], "nothing stands behind --level"),
+        (["--only", serial, "--xml"], "no such option: --xml"),
+        (["--web", "--only", serial], "--web stands without a moment"),
+    ):
+        found = ended(program, words, both)
+        yield f"the words {words}", found == (2, "", f"x509_linter: {what}\n{USAGE}"), found
+    found = ended(program, ["--", "--only", serial], both)
+    said = "".join(f"x509_linter: {name}: no such file\n" for name in ("--only", serial))
+    yield "names behind --", found == (2, "", said), found
+    for words in (["--only", "no_rule", "--help"], ["--only", serial, "--help"]):
+        status, text, said = ended(program, words)
+        yield f"the words {words}", (status, said) == (0, "") and text.startswith(USAGE), text
+    for name in sorted(set().union(*rule_names().values())):
+        found = ended(program, ["--only", name], certificate())
+        yield f"the rule {name}", found == (0, "", ""), found
+
+
+def summaries(program):
+    """For each run with `--count` a name, whether it ended as stated, and how it ended."""
+    odd, weak = certificate(serial=integer(0)), certificate(extensions=(AKI, SKI, ce(15, DIGITAL_SIGNATURE)))
+    both = certificate(serial=integer(0), extensions=(AKI, SKI, ce(15, DIGITAL_SIGNATURE)))
+    bad, warned = "certificate: error serial_number_not_positive (RFC 5280 4.1.2.2)\n", "certificate: warning key_usage_not_critical (RFC 5280 4.2.1.3)\n"
+    serial, usage, moment = "serial_number_not_positive", "key_usage_not_critical", "2026-03-15"
+    for words, data, wanted in (
+        (["--count"], odd, (1, f"1 {bad}")),
+        (["--count"], both, (1, f"1 {bad}1 {warned}")),
+        (["--count"], weak, (0, f"1 {warned}")),
+        (["--count"], certificate(), (0, "")),
+        (["--count", "--count"], odd, (1, f"1 {bad}")),
+        (["-v", "--count"], certificate(), (0, "1 nothing found\n")),
+        (["--count", "-v"], both, (1, f"1 {bad}1 {warned}")),
+        (["--count", "certificate", "-"], both, (1, f"1 {bad}1 {warned}")),
+        (["--count", "--level", "warning"], weak, (1, f"1 {warned}")),
+        (["--count", "--only", usage], both, (0, f"1 {warned}")),
+        (["--count", "--without", usage], both, (1, f"1 {bad}")),
+        (["--count", "-v", "--only", serial, "--without", serial], both, (0, "1 no rule applies\n")),
+        (["--web", "--count", "--only", "common_name_present", moment], certificate(), (0, "1 certificate: warning common_name_present (TLS BR 7.1.2.7)\n")),
+    ):
+        found = ended(program, words, data)
+        yield f"the words {words}", found == (*wanted, ""), f"{found}, and not {wanted}"
+    with tempfile.TemporaryDirectory() as folder:
+        paths = [f"{folder}/{at}" for at in range(5)]
+        chain = b"".join(next(pem_of(data)) for data in (weak, odd, certificate())) + PEM_OF_NOTHING
+        for path, data in zip(paths, (weak, both, certificate(), chain, b"")):
+            pathlib.Path(path).write_bytes(data)
+        said = f"x509_linter: {paths[3]}, object 4: {NO_OBJECT}\nx509_linter: {paths[4]}: {NO_OBJECT}; it is empty\n"
+        found = ended(program, ["--count", *paths])
+        yield "several files with --count", found == (2, f"3 {warned}2 {bad}", said), found
+        found = ended(program, ["--count", "-v", *paths])
+        yield "several files with --count and -v", found == (2, f"3 {warned}2 {bad}2 nothing found\n", said), found
+        found = ended(program, ["--count", "--only", usage, *paths[:3]])
+        yield "several files with --count and --only", found == (0, f"2 {warned}", ""), found
+        many = [paths[1]] * 1200
+        found = ended(program, ["--count", *many])
+        yield "many files with --count", found == (1, f"1200 {bad}1200 {warned}", ""), found
+    for words in (["--count", "--json"], ["-v", "--json", "--count"], ["--web", "--json", "--count", moment], ["--count", "--only", serial, "--json"]):
+        found = ended(program, words, odd)
+        yield f"the words {words}", found == (2, "", f"x509_linter: --count prints no JSON\n{USAGE}"), found
+    for words, option in ((["--count", "--xml"], "--xml"), (["--count=1"], "--count=1"), (["--counts"], "--counts")):
+        found = ended(program, words, odd)
+        yield f"the words {words}", found == (2, "", no_option(option) + USAGE), found
+    with open("/dev/full", "wb") as full:
+        found = ended(program, ["--count"], odd, stdout=full)
+        yield "a full output, with --count", found == (2, "", "x509_linter: the output can't be written\n"), found
+
+
 def alike(program):
     """The runs that the programs over objects have to end alike, and those over several files with `-v`."""
     odd, line = certificate(serial=integer(0)), "certificate: error serial_number_not_positive (RFC 5280 4.1.2.2)\n"
     objects = [(certificate(), "", 0), (odd, line, 1), (crl(), "", 0), (csr(), "", 0), (anchor(), "", 0)]
     yield from refused(program)
     yield from at_moments(program)
-    yield from Program(program, USAGE, NO_OBJECT, objects).checked()
+    yield from choices(program)
+    yield from verbose_json(program)
+    yield from no_rule(program)
+    yield from summaries(program)
+    yield from Program(program, USAGE, NO_OBJECT, objects, no_option).checked()
     with tempfile.TemporaryDirectory() as folder:
         paths = [f"{folder}/{at}" for at in range(5)]
         for path, (data, _, _) in zip(paths, objects):

@@ -17,7 +17,7 @@ sys.path.insert(0, str(pathlib.Path(__file__).resolve().parents[1]))
 sys.path.insert(0, str(pathlib.Path(__file__).resolve().parents[1] / "robustness"))
 from common.der import UTF8_STRING, element, sequence
 from hostile_payloads import NAME_ROWS, alternative_names, certificate, key_usage, relative_name
-from object_runs import Program, counted, ended
+from object_runs import Program, counted, ended, pem_of
 from shown_objects import FORGED, anchors, crls, long_crl, objects, requests
 from shown_timestamps import runs as runs_over_timestamps
 from test_linter import SIGNATURE
@@ -177,6 +177,7 @@ def checked(program):
         yield name, None if found == wanted else f"{found}, and not {wanted}"
     for name, data, words, same in (
         ("hex", whole.hex().encode() + b"\n", [], []),
+        ("hex with colons", whole.hex(":").encode() + b"\n", [], []),
         ("hex, as JSON", whole.hex().encode(), ["--json"], ["--json"]),
         ("JSON of a kind", whole, ["--json", "certificate"], ["--json"]),
         ("JSON of a kind, the words the other way round", whole, ["certificate", "--json"], ["--json"]),
@@ -203,6 +204,8 @@ def with_files(program):
         ):
             found = ended(program, words)
             yield f"files {words}", None if found == (0, wanted, "") else f"{found}, and not {wanted}"
+        found = ended(program, ["--json"], b"".join([next(pem_of(certificate()))] * 2))
+        yield "PEM of several objects, as JSON", None if found == (0, document * 2, "") else f"{found}, and not {document * 2}"
         found, wanted = ended(program, ["crl", *paths]), "".join(f"x509_show: {path}: not a CRL in DER, PEM or hex\n" for path in paths)
         yield "files of another kind", None if found == (2, "", wanted) else f"{found}, and not {wanted}"
 

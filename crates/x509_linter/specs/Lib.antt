@@ -1,1 +1,8 @@
+pub mod Choice
+pub mod Chosen
+pub mod Count
+pub mod Lines
 pub mod Linter
+pub mod Names
+pub mod Run
+pub mod Summary

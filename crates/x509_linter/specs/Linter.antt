@@ -1,5 +1,5 @@
 -- What the program prints of the bytes of an object, and what its words ask for.
-use Rattle.std.specs.Prelude.{◌≡◌, ◌&&◌, ℕ, Bool, true, false, List, [], ◌∷◌, ◌++◌, Option, Some, None, bytes_eq, codes, string_bytes, if◌then◌else◌}
+use Rattle.std.specs.Prelude.{◌≡◌, ◌&&◌, ◌||◌, not, ℕ, Bool, true, false, List, [], ◌∷◌, ◌++◌, Option, Some, None, Result, Ok, Err, bytes_eq, codes, string_bytes, if◌then◌else◌}
 use Rattle.std.specs.Option.{option_map}
 use Rattle.x509_base.specs.CivilTime.{CivilTime}
 use Rattle.x509_base.specs.TimeReading.{is_date_time, named_by_text}
@@ -9,17 +9,25 @@ use Rattle.x509_lint.specs.Report.{IsReport, IsSaidAs}
 use Rattle.x509_lint.specs.declared.report.Kind.{Kind}
 use Rattle.x509_lint.specs.declared.report.Kind.TheVariants.{Certificate, Crl, Csr, Anchor}
 use Rattle.x509_lint.specs.declared.report.Report.{Report}
+use Rattle.x509_linter.specs.Choice.{are_mixed, is_choice, is_right, names_rules, takes_value}
 use Rattle.x509_linter.specs.declared.linter.Linter.{Linter}
 use Rattle.x509_linter.specs.declared.linter.Telling.{Telling}
-use Rattle.x509_linter.specs.declared.linter.Telling.TheVariants.{Lines, Verbose, Json}
+use Rattle.x509_linter.specs.declared.linter.Telling.TheVariants.{Lines, Verbose, Json, VerboseJson}
+use Rattle.x509_object_run.specs.Faults.{fault_text}
 use Rattle.x509_object_run.specs.Labels.{word_label}
-use Rattle.x509_object_run.specs.Object.{Subject}
+use Rattle.x509_object_run.specs.Object.{Steps, Subject}
 use Rattle.x509_object_run.specs.Program.{Program}
+use Rattle.x509_object_run.specs.Words.{has_option}
+use Rattle.x509_object_run.specs.declared.fault.Fault.{Fault}
+use Rattle.x509_object_run.specs.declared.fault.Fault.TheVariants as faults
+use Rattle.x509_object_run.specs.declared.fault.PrintError.{PrintError}
+use Rattle.x509_object_run.specs.declared.fault.PrintError.TheVariants.{Memory, NoObject, Unwritten}
 use Rattle.x509_object_run.specs.declared.heading.Headed.{Headed}
 use Rattle.x509_object_run.specs.declared.heading.Headed.TheVariants.{Not, Line, Name}
 use Rattle.x509_text.specs.Lines.{shown}
 use Rattle.x509_text.specs.declared.line.Style.TheVariants as styles
 use Rattle.x509_tool_run.specs.Answer.{as_line}
+use Rattle.x509_tool_run.specs.Program.{IsCutOff, IsWritten}
 
 -- ---- words
 
@@ -36,10 +44,17 @@ kind_of word =
 abbrev pub telling_named : List ℕ → Option Telling
 telling_named option = if bytes_eq option (codes "-v") then Some Verbose else if bytes_eq option (codes "--json") then Some Json else None
 
+-- `-v` and `--json`, in either order
+abbrev pub telling_of_both : List ℕ → List ℕ → Option Telling
+telling_of_both first second =
+    if (bytes_eq first (codes "-v") && bytes_eq second (codes "--json")) || (bytes_eq first (codes "--json") && bytes_eq second (codes "-v")) then Some VerboseJson
+    else None
+
 abbrev pub telling_of : List (List ℕ) → Option Telling
 telling_of [] = Some Lines
 telling_of (option ∷ []) = telling_named option
-telling_of (first ∷ second ∷ options) = None
+telling_of (first ∷ second ∷ []) = telling_of_both first second
+telling_of (first ∷ second ∷ third ∷ options) = None
 
 abbrev pub of_kind : Telling → Kind → Linter
 of_kind telling kind = record { kind = Some kind; telling = telling; web = None }
@@ -76,12 +91,17 @@ web_of telling (moment ∷ names) = web_at telling names (moment_of moment)
 abbrev pub is_web : List ℕ → Bool
 is_web option = bytes_eq option (codes "--web")
 
--- `--web`, alone or before or behind one of the others
+-- `--web`, alone or somewhere among the others
 abbrev pub web_telling_of : List (List ℕ) → Option Telling
 web_telling_of [] = None
 web_telling_of (option ∷ []) = if is_web option then Some Lines else None
 web_telling_of (first ∷ second ∷ []) = if is_web first then telling_named second else if is_web second then telling_named first else None
-web_telling_of (first ∷ second ∷ third ∷ options) = None
+web_telling_of (first ∷ second ∷ third ∷ []) =
+    if is_web first then telling_of_both second third
+    else if is_web second then telling_of_both first third
+    else if is_web third then telling_of_both first second
+    else None
+web_telling_of (first ∷ second ∷ third ∷ fourth ∷ options) = None
 
 abbrev pub asked_by : Option Telling → List (List ℕ) → List (List ℕ) → Option (Linter × List (List ℕ))
 asked_by (Some telling) options names = web_of telling names
@@ -99,37 +119,76 @@ abbrev pub web_misuse : List (List ℕ) → List ℕ
 web_misuse [] = codes "x509_linter: --web stands without a moment\n"
 web_misuse (word ∷ names) = moment_misuse word (moment_of word)
 
-abbrev pub misuse_by : Option Telling → List (List ℕ) → List ℕ
-misuse_by (Some telling) names = web_misuse names
-misuse_by None names = []
+-- an option that may stand among others
+abbrev pub is_known : List ℕ → Bool
+is_known option = is_web option || (bytes_eq option (codes "-v") || (bytes_eq option (codes "--json") || is_right option))
+
+-- what is told in front of another
+abbrev pub wrong_told : List ℕ → List ℕ
+wrong_told option =
+    if names_rules option then codes "x509_linter: no such rule: "
+    else if is_choice option then codes "x509_linter: no such level, as error, warning and notice are: "
+    else if takes_value option then codes "x509_linter: nothing stands behind "
+    else codes "x509_linter: no such option: "
+
+-- of the first option that stands again behind it that is told, or nothing
+abbrev pub repeat_misuse : List (List ℕ) → List ℕ
+repeat_misuse [] = []
+repeat_misuse (option ∷ options) =
+    if has_option option options then codes "x509_linter: stands twice: " ++ (word_label option ++ codes "\n") else repeat_misuse options
+
+-- where each may stand among others, of a summary in JSON, or of one that stands twice
+abbrev pub end_misuse : List (List ℕ) → List ℕ
+end_misuse options = if are_mixed options then codes "x509_linter: --count prints no JSON\n" else repeat_misuse options
+
+-- of the first option that may not stand among others it is told why
+abbrev pub wrong_misuse : List (List ℕ) → List (List ℕ) → List ℕ
+wrong_misuse all [] = end_misuse all
+wrong_misuse all (option ∷ options) =
+    if is_known option then wrong_misuse all options else wrong_told option ++ (word_label option ++ codes "\n")
+
+abbrev pub option_misuse : List (List ℕ) → List ℕ
+option_misuse options = wrong_misuse options options
+
+abbrev pub misuse_by : Option Telling → List (List ℕ) → List (List ℕ) → List ℕ
+misuse_by (Some telling) options names = web_misuse names
+misuse_by None options names = option_misuse options
 
 -- what is told of words that ask for nothing
 abbrev pub misuse : List (List ℕ) → List (List ℕ) → List ℕ
-misuse options names = misuse_by (web_telling_of options) names
+misuse options names = misuse_by (web_telling_of options) options names
 
 -- ---- what the program says of itself
 
 abbrev pub usage : List ℕ
-usage = codes "usage: x509_linter [certificate|crl|csr|anchor] [-v|--json] [FILE..]\n       x509_linter --web [-v|--json] MOMENT [FILE..]"
+usage = codes "usage: x509_linter [certificate|crl|csr|anchor] [-v] [--json] [CHOICE..] [FILE..]\n       x509_linter --web [-v] [--json] [CHOICE..] MOMENT [FILE..]"
 
 abbrev pub help : List ℕ
 help =
-    codes "usage: x509_linter [certificate|crl|csr|anchor] [-v|--json] [FILE..]\n       x509_linter --web [-v|--json] MOMENT [FILE..]\n\n"
+    codes "usage: x509_linter [certificate|crl|csr|anchor] [-v] [--json] [CHOICE..] [FILE..]\n       x509_linter --web [-v] [--json] [CHOICE..] MOMENT [FILE..]\n\n"
     ++ codes "Tells which rules certificates, CRLs (RFC 5280), CSRs (RFC 2986, 2985) and trust anchors\n"
-    ++ codes "(RFC 5914) break, in DER, PEM or hex: a line for each, with its section. Without a FILE, and\n"
-    ++ codes "where FILE is -, it reads standard input.\n\n"
+    ++ codes "(RFC 5914) break, in DER, PEM or hex: a line for each, with its section. Of PEM each object is\n"
+    ++ codes "told of by itself. Without a FILE, and where FILE is -, it reads standard input.\n\n"
     ++ codes "  certificate, crl, csr, anchor  what each input is; without such a word it is tried as each\n"
     ++ codes "                                 of them, in this order\n"
     ++ codes "  --web                          tells which rules of the Baseline Requirements of the\n"
     ++ codes "                                 CA/Browser Forum certificates break, of those in force at\n"
-    ++ codes "                                 MOMENT, as 2026-03-15T00:00:00Z\n"
-    ++ codes "  -v                             says so where nothing is found\n"
-    ++ codes "  --json                         prints an object of JSON for each finding\n"
+    ++ codes "                                 MOMENT, as 2026-03-15T00:00:00Z, or 2026-03-15 for that\n"
+    ++ codes "  -v                             says so where nothing is found, or where no rule applies\n"
+    ++ codes "  --json                         prints an object of JSON for each finding; with -v also where\n"
+    ++ codes "                                 nothing is found or an input is refused\n"
+    ++ codes "  --only RULE, --without RULE    reports findings of these rules alone, or none of these; each\n"
+    ++ codes "                                 may stand several times, and RULE is a name as it is printed\n"
+    ++ codes "  --level error|warning|notice   from which severity on a finding makes status 1: an error, a\n"
+    ++ codes "                                 warning too, or also what isn't judged\n"
+    ++ codes "  --count                        prints each line once for all inputs, behind how often it\n"
+    ++ codes "                                 stands there\n"
     ++ codes "  --                             ends the options\n"
     ++ codes "  --help                         prints this text\n"
     ++ codes "  --version                      prints the version\n\n"
-    ++ codes "Status: 0 where no rule is broken that has to be kept, warnings aside; 1 where one is;\n"
-    ++ codes "2 where an input is refused or the words are wrong.\n"
+    ++ codes "CHOICE is one of the options --only, --without, --level and --count. Status: 0 where no rule is\n"
+    ++ codes "broken that has to be kept, warnings aside; 1 where one is; 2 where an input is refused or the\n"
+    ++ codes "words are wrong. With a CHOICE, 0 and 1 are of the findings that are reported.\n"
 
 abbrev pub program : Program
 program = record { name = codes "x509_linter"; usage = usage; help = help }
@@ -156,6 +215,7 @@ headed Lines false = Not
 headed Verbose true = Line
 headed Verbose false = Not
 headed Json is_several = Name
+headed VerboseJson is_several = Name
 
 -- the brace and the member `file` in front of the members of a finding
 abbrev pub json_front : List ℕ → List ℕ
@@ -165,6 +225,7 @@ abbrev pub front_for : Telling → List ℕ → Option (List ℕ)
 front_for Lines name = None
 front_for Verbose name = None
 front_for Json name = Some (json_front name)
+front_for VerboseJson name = Some (json_front name)
 
 -- what is said of the object that was asked for
 abbrev pub is_said : Option Kind → Option (List ℕ) → List ℕ → Option Report → Type 0
@@ -176,28 +237,68 @@ abbrev pub is_said_at : Option CivilTime → Option Kind → Option (List ℕ) �
 is_said_at None kind front bytes said = is_said kind front bytes said
 is_said_at (Some moment) kind front bytes said = IsWebSaid front moment bytes said
 
--- what is said of an object of which nothing is found
-abbrev pub clean : Telling → List ℕ → List ℕ
-clean Lines heading = []
-clean Verbose heading = heading ++ as_line (codes "nothing found")
-clean Json heading = []
+-- what is said of an object of which nothing is found, where a rule was asked or none was
+abbrev pub clean_words : Bool → List ℕ
+clean_words true = codes "nothing found"
+clean_words false = codes "no rule applies"
+
+-- the same as an object of JSON in a line
+abbrev pub clean_json : Bool → List ℕ → List ℕ
+clean_json is_asked name = ((json_front name ++ codes "\"result\": \"") ++ clean_words is_asked) ++ codes "\"}\n"
+
+abbrev pub clean : Telling → Bool → List ℕ → List ℕ
+clean Lines is_asked heading = []
+clean Verbose is_asked heading = heading ++ as_line (clean_words is_asked)
+clean Json is_asked heading = []
+clean VerboseJson is_asked heading = clean_json is_asked heading
+
+-- whether it is printed too that an input is refused
+abbrev pub tells_refusals : Telling → Bool
+tells_refusals Lines = false
+tells_refusals Verbose = false
+tells_refusals Json = false
+tells_refusals VerboseJson = true
+
+-- whether it is the output that failed
+abbrev pub is_unwritten : Fault → Bool
+is_unwritten (faults.Unopened e) = false
+is_unwritten faults.Unreadable = false
+is_unwritten faults.TooLong = false
+is_unwritten (faults.NoObject looks) = false
+is_unwritten faults.Unwritten = true
+is_unwritten faults.Memory = false
+
+-- an object of JSON that says why
+abbrev pub refused_json : List ℕ → List ℕ → List ℕ
+refused_json name reason = ((json_front name ++ codes "\"result\": \"refused\", \"reason\": \"") ++ reason) ++ codes "\"}\n"
+
+abbrev pub refused : Telling → Option Kind → List ℕ → Fault → List ℕ
+refused telling kind name fault = if tells_refusals telling && not (is_unwritten fault) then refused_json name (fault_text (no_object kind) fault) else []
 
 -- findings under a heading, which JSON doesn't have
 abbrev pub found : Telling → List ℕ → List ℕ → List ℕ
 found Lines heading findings = heading ++ findings
 found Verbose heading findings = heading ++ findings
 found Json heading findings = findings
+found VerboseJson heading findings = findings
 
 -- the lines of the findings under a heading; without findings no heading
-abbrev pub told : Telling → List ℕ → List ℕ → List ℕ
-told telling heading [] = clean telling heading
-told telling heading (first ∷ others) = found telling heading (first ∷ others)
+abbrev pub told : Telling → Bool → List ℕ → List ℕ → List ℕ
+told telling is_asked heading [] = clean telling is_asked heading
+told telling is_asked heading (first ∷ others) = found telling heading (first ∷ others)
+
+-- what writing a text comes to: it is written, or the output takes only a front of it, or memory is refused before
+abbrev pub IsPut : {W : Type 0} → Steps W → W → List ℕ → W → Result Unit PrintError → Type 0
+IsPut takes old text new (Ok done) = IsWritten takes old text new
+IsPut takes old text new (Err Unwritten) = IsCutOff takes old text new
+IsPut takes old text new (Err Memory) = new ≡ old
+IsPut takes old text new (Err NoObject) = ⊥
 
 -- what is told of the report on bytes
 abbrev pub Tells : Linter → List ℕ → List ℕ → List ℕ → ℕ → Type 0
 Tells linter heading bytes text status =
     (report : Report) × is_said_at linter.web linter.kind (front_for linter.telling heading) bytes (Some report)
-    × (text ≡ told linter.telling heading (string_bytes report.text)) × (status ≡ status_of report.has_error)
+    × (text ≡ told linter.telling true heading (string_bytes report.text)) × (status ≡ status_of report.has_error)
 
 abbrev pub IsNone : Linter → List ℕ → Type 0
 IsNone linter bytes = is_said_at linter.web linter.kind None bytes None
@@ -208,4 +309,5 @@ subject linter = record {
   is_none = IsNone linter;
   no_object = no_object linter.kind;
   headed = headed linter.telling;
+  refused = refused linter.telling linter.kind;
 }

@@ -1,44 +1,57 @@
 //! What the program prints of an object.
 
 ghost use Rattle.std.specs.Option.{option_map};
-ghost use Rattle.std.specs.Prelude.{◌≡◌, ◌++◌, IfErr, IfOk, List, OnErr, OnOk, map, string_bytes};
+ghost use Rattle.std.specs.Prelude.{◌≡◌, ◌++◌, ◌∷◌, [], IfErr, IfOk, List, Some, map, string_bytes};
 ghost use Rattle.x509_lint.specs.Report.{front_of};
 ghost use Rattle.x509_lint_web.specs.Report.{IsWebSaid};
 ghost use Rattle.x509_linter.specs.Linter as grammar;
 ghost use Rattle.x509_der.specs.declared.error.ErrorKind.TheVariants as errors;
 ghost use Rattle.x509_object_run.specs.Object.{heading_text};
-ghost use Rattle.x509_tool_run.specs.Program.{IsCutOff, IsWritten};
+ghost use Rattle.x509_tool_run.specs.Answer.{as_line};
 
+use crate::choice::{are_mixed, is_among, is_choice, is_right, names_rules};
+use crate::values::takes_value;
 use std::alloc::{AllocError, Global};
 use std::str::FromStr;
 use x509_base::DateTime;
 use x509_der::{Error, ErrorKind};
 use x509_lint::{Kind, Report, Style, lint_bytes, lint_kind};
 use x509_lint_web::lint_web_bytes;
-use x509_object_run::{Headed, Heading, PrintError, Printer, word_label, write_headed};
+use x509_object_run::{
+    Asked, Fault, Headed, Heading, PrintError, Printer, fault_words, word_label, write_headed,
+};
 use x509_text::write_json_text;
 use x509_tool_run::{Sink, WriteError, write_text};
 
-const HELP: &[u8] = b"usage: x509_linter [certificate|crl|csr|anchor] [-v|--json] [FILE..]
-       x509_linter --web [-v|--json] MOMENT [FILE..]
+const HELP: &[u8] =
+    b"usage: x509_linter [certificate|crl|csr|anchor] [-v] [--json] [CHOICE..] [FILE..]
+       x509_linter --web [-v] [--json] [CHOICE..] MOMENT [FILE..]
 
 Tells which rules certificates, CRLs (RFC 5280), CSRs (RFC 2986, 2985) and trust anchors
-(RFC 5914) break, in DER, PEM or hex: a line for each, with its section. Without a FILE, and
-where FILE is -, it reads standard input.
+(RFC 5914) break, in DER, PEM or hex: a line for each, with its section. Of PEM each object is
+told of by itself. Without a FILE, and where FILE is -, it reads standard input.
 
   certificate, crl, csr, anchor  what each input is; without such a word it is tried as each
                                  of them, in this order
   --web                          tells which rules of the Baseline Requirements of the
                                  CA/Browser Forum certificates break, of those in force at
-                                 MOMENT, as 2026-03-15T00:00:00Z
-  -v                             says so where nothing is found
-  --json                         prints an object of JSON for each finding
+                                 MOMENT, as 2026-03-15T00:00:00Z, or 2026-03-15 for that
+  -v                             says so where nothing is found, or where no rule applies
+  --json                         prints an object of JSON for each finding; with -v also where
+                                 nothing is found or an input is refused
+  --only RULE, --without RULE    reports findings of these rules alone, or none of these; each
+                                 may stand several times, and RULE is a name as it is printed
+  --level error|warning|notice   from which severity on a finding makes status 1: an error, a
+                                 warning too, or also what isn't judged
+  --count                        prints each line once for all inputs, behind how often it
+                                 stands there
   --                             ends the options
   --help                         prints this text
   --version                      prints the version
 
-Status: 0 where no rule is broken that has to be kept, warnings aside; 1 where one is;
-2 where an input is refused or the words are wrong.
+CHOICE is one of the options --only, --without, --level and --count. Status: 0 where no rule is
+broken that has to be kept, warnings aside; 1 where one is; 2 where an input is refused or the
+words are wrong. With a CHOICE, 0 and 1 are of the findings that are reported.
 ";
 
 /// How findings are told.
@@ -52,14 +65,17 @@ pub(crate) enum Telling {
 
     /// An object of JSON for each.
     Json,
+
+    /// An object of JSON for each, and one that says so where there is none.
+    VerboseJson,
 }
 
 /// What the words ask for: how findings are told, of objects of one kind or of any; with a moment, by the rules of the Baseline Requirements.
 #[derive(Clone, Copy, Debug, PartialEq, Eq)]
 pub(crate) struct Linter {
-    kind: Option<Kind>,
-    telling: Telling,
-    web: Option<DateTime>,
+    pub(crate) kind: Option<Kind>,
+    pub(crate) telling: Telling,
+    pub(crate) web: Option<DateTime>,
 }
 
 /// The kind of object that a word names.
@@ -86,6 +102,17 @@ fn telling_named(option: &str) -> Option<Telling>
     }
 }
 
+/// How findings are told that two options ask for.
+fn telling_of_both(first: &str, second: &str) -> Option<Telling>
+    ensures { result ≡ grammar.telling_of_both first.now second.now }
+{
+    if (first == "-v" && second == "--json") || (first == "--json" && second == "-v") {
+        Some(Telling::VerboseJson)
+    } else {
+        None
+    }
+}
+
 /// How findings are told that options ask for.
 fn telling_of(options: &[&str]) -> Option<Telling>
     ensures { result ≡ grammar.telling_of (map (λ option. option.now) options.now) }
@@ -93,6 +120,7 @@ fn telling_of(options: &[&str]) -> Option<Telling>
     match options {
         [] => Some(Telling::Lines),
         [option] => telling_named(option),
+        [first, second] => telling_of_both(first, second),
         _ => None,
     }
 }
@@ -123,10 +151,27 @@ fn asked_of<'a, 'b>(telling: Telling, names: &'a [&'b str]) -> (Linter, &'a [&'b
     )
 }
 
-fn is_web(option: &str) -> bool
+/// Whether an option asks for the Baseline Requirements.
+pub(crate) fn is_web(option: &str) -> bool
     ensures { result ≡ grammar.is_web option.now }
 {
     option == "--web"
+}
+
+/// How findings are told that three options ask for of which one is `--web`.
+fn web_telling_of_three(first: &str, second: &str, third: &str) -> Option<Telling>
+    ensures { result ≡ grammar.web_telling_of (first.now ∷ second.now ∷ third.now ∷ []) }
+{
+    if is_web(first) {
+        return telling_of_both(second, third);
+    }
+    if is_web(second) {
+        return telling_of_both(first, third);
+    }
+    if is_web(third) {
+        return telling_of_both(first, second);
+    }
+    None
 }
 
 /// How findings are told that options ask for of which one is `--web`; `None` where none is, or they ask for nothing.
@@ -137,6 +182,7 @@ fn web_telling_of(options: &[&str]) -> Option<Telling>
         [option] if is_web(option) => Some(Telling::Lines),
         [first, second] if is_web(first) => telling_named(second),
         [first, second] if is_web(second) => telling_named(first),
+        [first, second, third] => web_telling_of_three(first, second, third),
         _ => None,
     }
 }
@@ -195,8 +241,69 @@ fn web_misuse<'b>(names: &[&'b str]) -> (&'static [u8], &'b str, &'static [u8])
     }
 }
 
+/// Whether an option is one that may stand among others.
+fn is_known(option: &str) -> bool
+    ensures { result ≡ grammar.is_known option.now }
+{
+    is_web(option) || (option == "-v" || (option == "--json" || is_right(option)))
+}
+
+/// What is told of an option that may not stand among others.
+fn wrong_told(option: &str) -> &'static [u8]
+    ensures { result.now ≡ grammar.wrong_told option.now }
+{
+    if names_rules(option) {
+        return b"x509_linter: no such rule: ";
+    }
+    if is_choice(option) {
+        return b"x509_linter: no such level, as error, warning and notice are: ";
+    }
+    if takes_value(option) {
+        return b"x509_linter: nothing stands behind ";
+    }
+    b"x509_linter: no such option: "
+}
+
+/// What is told of an option that stands twice: of the first that does, or nothing.
+fn repeat_misuse<'b>(options: &[&'b str]) -> (&'static [u8], &'b str, &'static [u8])
+    ensures { result.0.now ++ (result.1.now ++ result.2.now) ≡ grammar.repeat_misuse (map (λ option. option.now) options.now) }
+{
+    let mut rest = options;
+    while let [option, others @ ..] = rest {
+        if is_among(option, others) {
+            return (b"x509_linter: stands twice: ", word_label(option), b"\n");
+        }
+        rest = others;
+    }
+    (b"", "", b"")
+}
+
+/// What is told of options each of which may stand among others: of a summary in JSON, or of one that stands twice, or nothing.
+fn end_misuse<'b>(options: &[&'b str]) -> (&'static [u8], &'b str, &'static [u8])
+    ensures { result.0.now ++ (result.1.now ++ result.2.now) ≡ grammar.end_misuse (map (λ option. option.now) options.now) }
+{
+    if are_mixed(options) {
+        return (b"x509_linter: --count prints no JSON\n", "", b"");
+    }
+    repeat_misuse(options)
+}
+
+/// What is told of options that ask for nothing: of the first that may not stand among others, or of all, or nothing.
+fn option_misuse<'b>(options: &[&'b str]) -> (&'static [u8], &'b str, &'static [u8])
+    ensures { result.0.now ++ (result.1.now ++ result.2.now) ≡ grammar.option_misuse (map (λ option. option.now) options.now) }
+{
+    let mut rest = options;
+    while let [option, others @ ..] = rest {
+        if !is_known(option) {
+            return (wrong_told(option), word_label(option), b"\n");
+        }
+        rest = others;
+    }
+    end_misuse(options)
+}
+
 /// How it is told that bytes are the encoding of no object of this kind, or of none at all.
-fn no_object(kind: Option<Kind>) -> &'static [u8]
+pub(crate) fn no_object(kind: Option<Kind>) -> &'static [u8]
     ensures { result.now ≡ grammar.no_object kind }
 {
     match kind {
@@ -209,11 +316,11 @@ fn no_object(kind: Option<Kind>) -> &'static [u8]
 }
 
 /// What stands above the findings of an input.
-fn headed(telling: Telling, is_several: bool) -> Headed
+pub(crate) fn headed(telling: Telling, is_several: bool) -> Headed
     ensures { result ≡ grammar.headed telling is_several }
 {
     match telling {
-        Telling::Json => Headed::Name,
+        Telling::Json | Telling::VerboseJson => Headed::Name,
         _ if is_several => Headed::Line,
         _ => Headed::Not,
     }
@@ -229,7 +336,7 @@ fn text_of(alloc: Global, heading: Heading<'_>) -> Result<String, AllocError>
 }
 
 /// The brace and the member `file` in front of the members of a finding.
-fn front_of(alloc: Global, heading: Heading<'_>) -> Result<String, AllocError>
+pub(crate) fn front_of(alloc: Global, heading: Heading<'_>) -> Result<String, AllocError>
     ensures { IfOk result (λ front. string_bytes front ≡ grammar.json_front (heading_text heading.entry)) }
 {
     let name = text_of(alloc, heading)?;
@@ -256,6 +363,20 @@ fn said_of(
     }
 }
 
+/// What is said of it in objects of JSON.
+fn json_said_of(
+    alloc: Global,
+    kind: Option<Kind>,
+    heading: Heading<'_>,
+    bytes: &[u8],
+) -> Result<Option<Report>, Error>
+    ensures ok { IfOk result (grammar.is_said kind (Some (grammar.json_front (heading_text heading.entry))) bytes.now) }
+    ensures err { IfErr result (λ e. e.kind ≡ errors.Memory) }
+{
+    let front = front_of(alloc, heading)?;
+    said_of(alloc, kind, Style::Json(front.as_str()), bytes)
+}
+
 /// What is said of it by the rules of RFC 5280 and the others, as it is told.
 fn styled_of(
     alloc: Global,
@@ -267,12 +388,23 @@ fn styled_of(
     ensures err { IfErr result (λ e. e.kind ≡ errors.Memory) }
 {
     match linter.telling {
-        Telling::Json => {
-            let front = front_of(alloc, heading)?;
-            said_of(alloc, linter.kind, Style::Json(front.as_str()), bytes)
-        }
+        Telling::Json | Telling::VerboseJson => json_said_of(alloc, linter.kind, heading, bytes),
         Telling::Lines | Telling::Verbose => said_of(alloc, linter.kind, Style::Text, bytes),
     }
+}
+
+/// What is said of it in objects of JSON by the rules of the Baseline Requirements that are in force at the moment.
+fn json_web_report_of(
+    alloc: Global,
+    moment: DateTime,
+    heading: Heading<'_>,
+    bytes: &[u8],
+) -> Result<Option<Report>, Error>
+    ensures ok { IfOk result (IsWebSaid (Some (grammar.json_front (heading_text heading.entry))) moment bytes.now) }
+    ensures err { IfErr result (λ e. e.kind ≡ errors.Memory) }
+{
+    let front = front_of(alloc, heading)?;
+    lint_web_bytes(alloc, Style::Json(front.as_str()), moment, bytes)
 }
 
 /// What is said of it by the rules of the Baseline Requirements that are in force at the moment, as it is told.
@@ -287,17 +419,13 @@ fn web_report_of(
     ensures err { IfErr result (λ e. e.kind ≡ errors.Memory) }
 {
     match telling {
-        Telling::Json => {
-            let front = front_of(alloc, heading)?;
-            lint_web_bytes(alloc, Style::Json(front.as_str()), moment, bytes)
-        }
-        Telling::Lines => lint_web_bytes(alloc, Style::Text, moment, bytes),
-        Telling::Verbose => lint_web_bytes(alloc, Style::Text, moment, bytes),
+        Telling::Json | Telling::VerboseJson => json_web_report_of(alloc, moment, heading, bytes),
+        Telling::Lines | Telling::Verbose => lint_web_bytes(alloc, Style::Text, moment, bytes),
     }
 }
 
 /// What is said of it; with a moment, by the rules of the Baseline Requirements.
-fn report_of(
+pub(crate) fn report_of(
     alloc: Global,
     linter: Linter,
     heading: Heading<'_>,
@@ -313,41 +441,235 @@ fn report_of(
 }
 
 /// The status that a report ends with: 1 where a rule is broken that has to be kept.
-fn status_of(has_error: bool) -> u8
+pub(crate) fn status_of(has_error: bool) -> u8
     ensures { result ≡ grammar.status_of has_error }
 {
     if has_error { 1 } else { 0 }
 }
 
-/// Writes the text of the findings: under a heading; where there are none, it says so or writes nothing; objects of JSON as they are.
-fn tell<'a, W: Sink>(
-    telling: Telling,
+/// Writes a text.
+fn put<W: Sink>(text: &[u8], writer: &mut W) -> Result<(), PrintError>
+    ensures { grammar.IsPut W.takes writer.old text.now writer.new result }
+{
+    match write_text(writer, text) {
+        Ok(()) => Ok(()),
+        Err(WriteError) => Err(PrintError::Unwritten),
+    }
+}
+
+/// Writes a text under a heading.
+fn put_headed<'a, W: Sink>(
     heading: Heading<'a>,
-    findings: &'a str,
+    text: &'a [u8],
     writer: &mut W,
-) -> Result<(), WriteError>
-    ensures ok { OnOk result (IsWritten W.takes writer.old (grammar.told telling (heading_text heading.entry) findings.now) writer.new) }
-    ensures err { OnErr result (IsCutOff W.takes writer.old (grammar.told telling (heading_text heading.entry) findings.now) writer.new) }
+) -> Result<(), PrintError>
+    ensures { grammar.IsPut W.takes writer.old (heading_text heading.entry ++ text.now) writer.new result }
+{
+    match write_headed(writer, heading, text) {
+        Ok(()) => Ok(()),
+        Err(WriteError) => Err(PrintError::Unwritten),
+    }
+}
+
+/// What is said where nothing is found.
+fn clean_words(is_asked: bool) -> &'static str
+    ensures { result.now ≡ grammar.clean_words is_asked }
+{
+    if is_asked {
+        "nothing found"
+    } else {
+        "no rule applies"
+    }
+}
+
+/// The same as a line.
+fn clean_line(is_asked: bool) -> &'static [u8]
+    ensures { result.now ≡ as_line (grammar.clean_words is_asked) }
+{
+    if is_asked {
+        b"nothing found\n"
+    } else {
+        b"no rule applies\n"
+    }
+}
+
+/// The same as an object of JSON.
+fn clean_json(alloc: Global, is_asked: bool, heading: Heading<'_>) -> Result<String, AllocError>
+    ensures { IfOk result (λ line. string_bytes line ≡ grammar.clean_json is_asked (heading_text heading.entry)) }
+{
+    let mut line = front_of(alloc, heading)?;
+    line.push_str("\"result\": \"")?;
+    line.push_str(clean_words(is_asked))?;
+    line.push_str("\"}\n")?;
+    Ok(line)
+}
+
+fn put_clean_json<W: Sink>(
+    alloc: Global,
+    is_asked: bool,
+    heading: Heading<'_>,
+    writer: &mut W,
+) -> Result<(), PrintError>
+    ensures { grammar.IsPut W.takes writer.old (grammar.clean_json is_asked (heading_text heading.entry)) writer.new result }
+{
+    match clean_json(alloc, is_asked, heading) {
+        Ok(line) => put(line.as_str().as_bytes(), writer),
+        Err(AllocError) => Err(PrintError::Memory),
+    }
+}
+
+/// Whether it is printed too that an input is refused.
+fn tells_refusals(telling: Telling) -> bool
+    ensures { result ≡ grammar.tells_refusals telling }
 {
     match telling {
-        Telling::Json => write_text(writer, findings.as_bytes()),
-        _ if !findings.is_empty() => write_headed(writer, heading, findings.as_bytes()),
-        Telling::Verbose => write_headed(writer, heading, b"nothing found\n"),
-        Telling::Lines => Ok(()),
+        Telling::VerboseJson => true,
+        Telling::Lines | Telling::Verbose | Telling::Json => false,
+    }
+}
+
+/// Whether it is the output that failed.
+fn is_unwritten(fault: Fault) -> bool
+    ensures { result ≡ grammar.is_unwritten fault }
+{
+    match fault {
+        Fault::Unwritten => true,
+        Fault::Unopened(_)
+        | Fault::Unreadable
+        | Fault::TooLong
+        | Fault::NoObject(_)
+        | Fault::Memory => false,
+    }
+}
+
+/// An object of JSON that says why an input is refused: two texts, one behind the other.
+fn refused_json(
+    alloc: Global,
+    heading: Heading<'_>,
+    what: &[u8],
+    more: &[u8],
+) -> Result<Vec<u8>, AllocError>
+    ensures { IfOk result (λ text. text.items ≡ grammar.refused_json (heading_text heading.entry) (what.now ++ more.now)) }
+{
+    let front = front_of(alloc, heading)?;
+    let mut text = Vec::from_slice(alloc, front.as_str().as_bytes())?;
+    text.extend_from_slice(b"\"result\": \"refused\", \"reason\": \"")?;
+    text.extend_from_slice(what)?;
+    text.extend_from_slice(more)?;
+    text.extend_from_slice(b"\"}\n")?;
+    Ok(text)
+}
+
+/// What is printed of an input that is refused.
+pub(crate) fn refused(
+    alloc: Global,
+    telling: Telling,
+    kind: Option<Kind>,
+    heading: Heading<'_>,
+    fault: Fault,
+) -> Result<Vec<u8>, AllocError>
+    ensures { IfOk result (λ text. text.items ≡ grammar.refused telling kind (heading_text heading.entry) fault) }
+{
+    if tells_refusals(telling) && !is_unwritten(fault) {
+        let (what, more) = fault_words(no_object(kind), fault);
+        return refused_json(alloc, heading, what, more);
+    }
+    Ok(Vec::new(alloc))
+}
+
+/// Writes what is said where nothing is found.
+fn tell_clean<W: Sink>(
+    alloc: Global,
+    telling: Telling,
+    is_asked: bool,
+    heading: Heading<'_>,
+    writer: &mut W,
+) -> Result<(), PrintError>
+    ensures { grammar.IsPut W.takes writer.old (grammar.clean telling is_asked (heading_text heading.entry)) writer.new result }
+{
+    match telling {
+        Telling::Lines | Telling::Json => Ok(()),
+        Telling::Verbose => put_headed(heading, clean_line(is_asked), writer),
+        Telling::VerboseJson => put_clean_json(alloc, is_asked, heading, writer),
+    }
+}
+
+/// Writes the text of the findings: under a heading, and objects of JSON as they are; where there are none, it says so or writes nothing.
+pub(crate) fn tell<'a, W: Sink>(
+    alloc: Global,
+    telling: Telling,
+    is_asked: bool,
+    heading: Heading<'a>,
+    findings: &'a [u8],
+    writer: &mut W,
+) -> Result<(), PrintError>
+    ensures { grammar.IsPut W.takes writer.old (grammar.told telling is_asked (heading_text heading.entry) findings.now) writer.new result }
+{
+    if findings.is_empty() {
+        return tell_clean(alloc, telling, is_asked, heading, writer);
+    }
+    match telling {
+        Telling::Lines | Telling::Verbose => put_headed(heading, findings, writer),
+        Telling::Json | Telling::VerboseJson => put(findings, writer),
     }
 }
 
 /// The text of what is said, under a heading; JSON has its name in each object. What is said where nothing is found is told by `-v` alone.
 impl Printer for Linter {
-    ghost use Rattle.x509_linter.specs.Linter.{asked, misuse, program, subject};
-
-    ghost asked = { asked };
-
-    ghost misuse = { misuse };
+    ghost use Rattle.x509_linter.specs.Linter.{program, subject};
 
     ghost program = { program };
 
     ghost subject = { subject };
+
+    fn name() -> &'static [u8] {
+        b"x509_linter"
+    }
+
+    fn no_object(&self) -> &'static [u8] {
+        no_object(self.kind)
+    }
+
+    fn headed(&self, is_several: bool) -> Headed {
+        headed(self.telling, is_several)
+    }
+
+    fn refused(
+        &self,
+        alloc: Global,
+        heading: Heading<'_>,
+        fault: Fault,
+    ) -> Result<Vec<u8>, AllocError> {
+        refused(alloc, self.telling, self.kind, heading, fault)
+    }
+
+    fn print<W: Sink>(
+        &self,
+        alloc: Global,
+        heading: Heading<'_>,
+        bytes: &[u8],
+        writer: &mut W,
+    ) -> Result<u8, PrintError> {
+        match report_of(alloc, *self, heading, bytes) {
+            Ok(Some(report)) => {
+                let text = report.text.as_str().as_bytes();
+                match tell(alloc, self.telling, true, heading, text, writer) {
+                    Ok(()) => Ok(status_of(report.has_error)),
+                    Err(e) => Err(e),
+                }
+            }
+            Ok(None) => Err(PrintError::NoObject),
+            Err(_) => Err(PrintError::Memory),
+        }
+    }
+}
+
+impl Asked for Linter {
+    ghost use Rattle.x509_linter.specs.Linter.{asked, misuse};
+
+    ghost asked = { asked };
+
+    ghost misuse = { misuse };
 
     fn from_words<'a, 'b>(
         options: &[&str],
@@ -368,46 +690,15 @@ impl Printer for Linter {
     ) -> (&'static [u8], &'b str, &'static [u8]) {
         match web_telling_of(options) {
             Some(_) => web_misuse(names),
-            None => (b"", "", b""),
+            None => option_misuse(options),
         }
     }
 
-    fn name() -> &'static [u8] {
-        b"x509_linter"
-    }
-
     fn usage() -> &'static [u8] {
-        b"usage: x509_linter [certificate|crl|csr|anchor] [-v|--json] [FILE..]\n       x509_linter --web [-v|--json] MOMENT [FILE..]\n"
+        b"usage: x509_linter [certificate|crl|csr|anchor] [-v] [--json] [CHOICE..] [FILE..]\n       x509_linter --web [-v] [--json] [CHOICE..] MOMENT [FILE..]\n"
     }
 
     fn help() -> &'static [u8] {
         HELP
-    }
-
-    fn no_object(&self) -> &'static [u8] {
-        no_object(self.kind)
-    }
-
-    fn headed(&self, is_several: bool) -> Headed {
-        headed(self.telling, is_several)
-    }
-
-    fn print<W: Sink>(
-        &self,
-        alloc: Global,
-        heading: Heading<'_>,
-        bytes: &[u8],
-        writer: &mut W,
-    ) -> Result<u8, PrintError> {
-        match report_of(alloc, *self, heading, bytes) {
-            Ok(Some(report)) => {
-                match tell(self.telling, heading, report.text.as_str(), writer) {
-                    Ok(()) => Ok(status_of(report.has_error)),
-                    Err(WriteError) => Err(PrintError::Unwritten),
-                }
-            }
-            Ok(None) => Err(PrintError::NoObject),
-            Err(_) => Err(PrintError::Memory),
-        }
     }
 }

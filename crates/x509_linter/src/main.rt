@@ -1,12 +1,21 @@
 //! Which rules certificates, CRLs, CSRs and trust anchors break, in files or on standard input.
 #![tactic(auto)]
 
+mod choice;
+mod chosen;
+mod count;
+mod lines;
 mod linter;
+mod names;
+mod run;
+mod summary;
+mod values;
 
 use crate::linter::Linter;
+use crate::run::lint;
 use std::fs::File;
 use std::process::ExitCode;
-use x509_object_run::{refuse_memory, run};
+use x509_object_run::refuse_memory;
 use x509_tool_run::words;
 
 fn main(rt: HostRuntime) -> ExitCode {
@@ -15,7 +24,7 @@ fn main(rt: HostRuntime) -> ExitCode {
     let mut writer = rt.stdout();
     let mut errors = rt.stderr();
     let status = match words(alloc, &rt) {
-        Ok(words) => run::<Linter, _, File, _, _, _>(
+        Ok(words) => lint::<_, File, _, _, _>(
             alloc,
             words.as_slice(),
             &rt,

@@ -1,6 +1,7 @@
 -- What a program over objects prints of an input.
-use Rattle.std.specs.Prelude.{◌≡◌, ◌⊎◌, ℕ, Bool, List, [], ◌∷◌, ◌++◌, not, codes, filter, Option, Some, None, Result, Ok, Err}
+use Rattle.std.specs.Prelude.{◌≡◌, ◌⊎◌, ◌||◌, ◌==◌, ℕ, Bool, List, [], ◌∷◌, ◌++◌, not, codes, filter, Option, Some, None, Result, Ok, Err}
 use Rattle.std.specs.Char.{is_ascii_whitespace}
+use Rattle.std.specs.Fmt.{decimal}
 use Rattle.hex.specs.Hex.{decode_of}
 use Rattle.hex.specs.declared.error.FromHexError.{FromHexError}
 use Rattle.x509_der.specs.declared.error.ErrorKind.TheVariants as kinds
@@ -12,7 +13,7 @@ use Rattle.x509_object_run.specs.declared.heading.Headed.TheVariants.{Not, Line,
 use Rattle.x509_object_run.specs.declared.heading.Heading.{Heading}
 use Rattle.x509_object_run.specs.declared.fault.PrintError.{PrintError}
 use Rattle.x509_object_run.specs.declared.fault.PrintError.TheVariants.{NoObject, Unwritten, Memory}
-use Rattle.x509_tool_run.specs.Input.{Input, Whole, TooLong, Unreadable, Unkept, IsRead}
+use Rattle.x509_tool_run.specs.Input.{Input, Whole, TooLong, Unreadable, Unkept}
 use Rattle.x509_tool_run.specs.Pem.{pem_objects}
 use Rattle.x509_tool_run.specs.Program.{IsWritten, IsCutOff}
 use Rattle.x509_tool_run.specs.declared.refusal.Refusal.{Refusal}
@@ -23,9 +24,13 @@ abbrev pub decoded_or : List ℕ → Result (List ℕ) FromHexError → List ℕ
 decoded_or others (Ok bytes) = bytes
 decoded_or others (Err e) = others
 
--- the bytes that are no white space
-abbrev pub without_blanks : List ℕ → List ℕ
-without_blanks input = filter (λ byte. not (is_ascii_whitespace byte)) input
+-- what may stand between the digits of hex text: white space, and colons
+abbrev pub is_between : ℕ → Bool
+is_between byte = is_ascii_whitespace byte || (byte == 58)
+
+-- the bytes that are none of it
+abbrev pub digits_of : List ℕ → List ℕ
+digits_of input = filter (λ byte. not (is_between byte)) input
 
 -- the one object, where there is one
 abbrev pub one_of : Option (List (List ℕ)) → Option (List ℕ)
@@ -36,12 +41,25 @@ one_of (Some (object ∷ other ∷ objects)) = None
 
 abbrev pub else_text : List ℕ → Option (List ℕ) → List ℕ
 else_text input (Some object) = object
-else_text input None = decoded_or input (decode_of (without_blanks input))
+else_text input None = decoded_or input (decode_of (digits_of input))
 
--- The bytes that an input is of: those of its PEM, where it has one object; those of its hex digits where it is hex text, white space aside; else the input
--- itself.
+-- The bytes that an input is of: those of its PEM, where it has one object; those of its hex digits where it is hex text, white space and colons aside; else
+-- the input itself.
 abbrev pub object_bytes : List ℕ → List ℕ
 object_bytes input = else_text input (one_of (pem_objects input))
+
+-- the objects that an input is of: those of its PEM, where it has some; else what its hex digits or the whole is
+abbrev pub objects_of : List ℕ → Option (List (List ℕ)) → List (List ℕ)
+objects_of input None = else_text input None ∷ []
+objects_of input (Some []) = else_text input None ∷ []
+objects_of input (Some (object ∷ objects)) = object ∷ objects
+
+abbrev pub input_objects : List ℕ → List (List ℕ)
+input_objects input = objects_of input (pem_objects input)
+
+-- what an object of an input of several is called
+abbrev pub numbered : List ℕ → ℕ → List ℕ
+numbered label number = label ++ (codes ", object " ++ decimal number)
 
 -- the text of a heading: a name, and what ends the line behind it
 abbrev pub heading_text : Heading → List ℕ
@@ -81,12 +99,13 @@ heading_for Line label = label ++ codes ":\n"
 heading_for Name label = label
 
 -- What a printer says of its object. That a heading and bytes give a text and a status; that bytes are no object of its kind; how that is
--- told; what stands above it, where there are several inputs or there is one.
+-- told; what stands above it, where there are several inputs or there is one; and what is printed where nothing whole is, under a heading and by why it isn't.
 pub record Subject : Type 1 where
   pub prints : Prints
   pub is_none : List ℕ → Type 0
   pub no_object : List ℕ
   pub headed : Bool → Headed
+  pub refused : List ℕ → Fault → List ℕ
 
 -- bytes are printed under a heading
 abbrev pub AreShown : {W : Type 0} → Subject → List ℕ → List ℕ → Steps W → W → W → Result ℕ Fault → Type 0
@@ -110,20 +129,3 @@ fault_of (Because kinds.Malformed) = faults.Memory
 fault_of (Because kinds.Failed) = faults.Memory
 fault_of (Because kinds.SetDuplicate) = faults.Memory
 fault_of (Because kinds.Value) = faults.Memory
-
--- an input that is read whole is shown
-abbrev pub IsWholeShown : {W : Type 0} → Subject → List ℕ → Input → Steps W → W → W → Result ℕ Fault → Type 0
-IsWholeShown subject heading (Whole input) takes old new result = AreShown subject heading (object_bytes input) takes old new result
-IsWholeShown subject heading TooLong takes old new result = ⊥
-IsWholeShown subject heading Unreadable takes old new result = ⊥
-IsWholeShown subject heading Unkept takes old new result = ⊥
-
--- or nothing is written
-abbrev pub IsInputShown : {W : Type 0} → Subject → List ℕ → Input → Steps W → W → W → Result ℕ Fault → Type 0
-IsInputShown subject heading input takes old new result =
-    IsWholeShown subject heading input takes old new result ⊎ ((new ≡ old) × (result ≡ Err (unread_fault input)))
-
--- reads give an input, and what is printed of it is written
-abbrev pub IsSourceShown : {R W : Type 0} → Subject → List ℕ → Steps R → R → R → Steps W → W → W → Result ℕ Fault → Type 0
-IsSourceShown subject heading gives from to takes old new result =
-    (input : Input) × IsRead gives from input to × IsInputShown subject heading input takes old new result

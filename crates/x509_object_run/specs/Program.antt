@@ -1,8 +1,8 @@
 -- What a program over objects does, from its words to its status.
-use Rattle.std.specs.Prelude.{◌≡◌, ◌⊎◌, ℕ, max, Bool, true, false, List, [], ◌∷◌, ◌++◌, codes, length, Option, Some, None, Result, Ok, Err, ltb, if◌then◌else◌}
+use Rattle.std.specs.Prelude.{◌≡◌, ◌⊎◌, ℕ, ◌+◌, max, Bool, true, false, List, [], ◌∷◌, ◌++◌, codes, length, Option, Some, None, Result, Ok, Err, ltb, if◌then◌else◌}
 use Rattle.x509_object_run.specs.Faults.{complaint, fault_text, short_complaint}
 use Rattle.x509_object_run.specs.Labels.{is_standard, label_of}
-use Rattle.x509_object_run.specs.Object.{IsSourceShown, Steps, Subject, heading_for, object_bytes, unread_fault}
+use Rattle.x509_object_run.specs.Object.{AreShown, Steps, Subject, heading_for, input_objects, numbered, object_bytes, one_of, unread_fault}
 use Rattle.x509_object_run.specs.Words.{has_option, inputs_of, names_of, options_of}
 use Rattle.x509_object_run.specs.declared.fault.Fault.{Fault}
 use Rattle.x509_object_run.specs.declared.fault.Fault.TheVariants.{Unopened, Unwritten, Memory}
@@ -39,46 +39,106 @@ streams input output errors = record { input = input; output = output; errors = 
 abbrev pub IsTold : {E : Type 0} → Steps E → E → List ℕ → E → Type 0
 IsTold takes old message new = IsWritten takes old message new ⊎ IsCutOff takes old message new
 
--- reads give an input, and the bytes that it is of; or why there are none
-abbrev pub IsSourceRead : {R : Type 0} → Steps R → R → R → Result (List ℕ) Fault → Type 0
-IsSourceRead gives from to (Ok bytes) = (input : List ℕ) × IsRead gives from (Whole input) to × (bytes ≡ object_bytes input)
-IsSourceRead gives from to (Err fault) = (input : Input) × IsRead gives from input to × (fault ≡ unread_fault input)
+-- reads give an input, and what it is; or why there is none
+abbrev pub IsSourceReadAs : {R A : Type 0} → (List ℕ → A) → Steps R → R → R → Result A Fault → Type 0
+IsSourceReadAs what gives from to (Ok found) = (input : List ℕ) × IsRead gives from (Whole input) to × (found ≡ what input)
+IsSourceReadAs what gives from to (Err fault) = (input : Input) × IsRead gives from input to × (fault ≡ unread_fault input)
 
 -- the file of a name is read, if it can be opened
-abbrev pub IsFileRead : {F : Type 0} → Steps F → Result F OpenError → Result (List ℕ) Fault → Type 0
-IsFileRead {F} file_gives (Ok file) read = (to : F) × IsSourceRead file_gives file to read
-IsFileRead file_gives (Err e) read = read ≡ Err (Unopened e)
+abbrev pub IsFileReadAs : {F A : Type 0} → (List ℕ → A) → Steps F → Result F OpenError → Result A Fault → Type 0
+IsFileReadAs {F} what file_gives (Ok file) read = (to : F) × IsSourceReadAs what file_gives file to read
+IsFileReadAs what file_gives (Err e) read = read ≡ Err (Unopened e)
 
 -- the input of a name is read, which is standard input or a file
+abbrev pub IsNamedReadAs : {R F A : Type 0} → (List ℕ → A) → Steps R → (List ℕ → Result F OpenError → Type 0) → Steps F → Bool → List ℕ → R → R → Result A Fault → Type 0
+IsNamedReadAs what gives opens file_gives true name from to read = IsSourceReadAs what gives from to read
+IsNamedReadAs {R} {F} what gives opens file_gives false name from to read =
+    (to ≡ from) × (opened : Result F OpenError) × opens name opened × IsFileReadAs what file_gives opened read
+
+-- as the bytes of one object
+abbrev pub IsSourceRead : {R : Type 0} → Steps R → R → R → Result (List ℕ) Fault → Type 0
+IsSourceRead gives from to read = IsSourceReadAs object_bytes gives from to read
+
+abbrev pub IsFileRead : {F : Type 0} → Steps F → Result F OpenError → Result (List ℕ) Fault → Type 0
+IsFileRead file_gives opened read = IsFileReadAs object_bytes file_gives opened read
+
 abbrev pub IsNamedRead : {R F : Type 0} → Steps R → (List ℕ → Result F OpenError → Type 0) → Steps F → Bool → List ℕ → R → R → Result (List ℕ) Fault → Type 0
-IsNamedRead gives opens file_gives true name from to read = IsSourceRead gives from to read
-IsNamedRead {R} {F} gives opens file_gives false name from to read =
-    (to ≡ from) × (opened : Result F OpenError) × opens name opened × IsFileRead file_gives opened read
+IsNamedRead gives opens file_gives standard name from to read = IsNamedReadAs object_bytes gives opens file_gives standard name from to read
 
--- the file of a name is shown, if it can be opened
-abbrev pub IsFileShown : {F W : Type 0} → Subject → List ℕ → Steps F → Result F OpenError → Steps W → W → W → Result ℕ Fault → Type 0
-IsFileShown {F} subject heading file_gives (Ok file) takes old new result =
-    (to : F) × IsSourceShown subject heading file_gives file to takes old new result
-IsFileShown subject heading file_gives (Err e) takes old new result = (new ≡ old) × (result ≡ Err (Unopened e))
+-- the states of standard output and standard error
+pub record Outputs (W E : Type 0) : Type 0 where
+  pub output : W
+  pub errors : E
 
--- an input is shown, which is standard input or a file
-abbrev pub IsNamedShown : {R F W : Type 0} → Subject → List ℕ → Steps R → (List ℕ → Result F OpenError → Type 0) → Steps F → Steps W → Bool → List ℕ → R → R → W → W → Result ℕ Fault → Type 0
-IsNamedShown subject heading gives opens file_gives takes true name from to old new result = IsSourceShown subject heading gives from to takes old new result
-IsNamedShown {R} {F} subject heading gives opens file_gives takes false name from to old new result =
-    (to ≡ from) × (opened : Result F OpenError) × opens name opened × IsFileShown subject heading file_gives opened takes old new result
+abbrev pub outputs : {W E : Type 0} → W → E → Outputs W E
+outputs output errors = record { output = output; errors = errors }
 
--- what came of an input ends it: with its status, or with a message and status 2
-abbrev pub IsEnded : {E : Type 0} → List ℕ → Subject → List ℕ → Steps E → Result ℕ Fault → E → E → ℕ → Type 0
-IsEnded program subject label takes (Ok shown) old new status = (new ≡ old) × (status ≡ shown)
-IsEnded program subject label takes (Err fault) old new status =
-    IsTold takes old (complaint program label (fault_text subject.no_object fault)) new × (status ≡ 2)
+-- how they are written
+pub record Writes (W E : Type 0) : Type 1 where
+  pub takes : Steps W
+  pub takes_errors : Steps E
 
--- an input is shown and ended
+abbrev pub writes : {W E : Type 0} → Steps W → Steps E → Writes W E
+writes takes takes_errors = record { takes = takes; takes_errors = takes_errors }
+
+-- that there is no memory is told of what is called so
+abbrev pub IsForgotten : {W E : Type 0} → List ℕ → Subject → Writes W E → List ℕ → Outputs W E → Outputs W E → Type 0
+IsForgotten program subject by label old new =
+    (new.output ≡ old.output) × IsTold by.takes_errors old.errors (complaint program label (fault_text subject.no_object Memory)) new.errors
+
+-- nothing whole is printed: that is printed and told, or there is no memory
+abbrev pub IsRefused : {W E : Type 0} → List ℕ → Subject → Writes W E → Headed → List ℕ → Fault → Outputs W E → Outputs W E → Type 0
+IsRefused program subject by headed label fault old new =
+    (IsTold by.takes old.output (subject.refused (heading_for headed label) fault) new.output
+    × IsTold by.takes_errors old.errors (complaint program label (fault_text subject.no_object fault)) new.errors)
+    ⊎ IsForgotten program subject by label old new
+
+-- what came of printing ends it: with its status, or with a message and status 2
+abbrev pub IsEnded : {W E : Type 0} → List ℕ → Subject → Writes W E → Headed → List ℕ → Result ℕ Fault → Outputs W E → Outputs W E → ℕ → Type 0
+IsEnded program subject by headed label (Ok shown) old new status = (new ≡ old) × (status ≡ shown)
+IsEnded program subject by headed label (Err fault) old new status = IsRefused program subject by headed label fault old new × (status ≡ 2)
+
+-- the bytes of an object are shown and ended
+abbrev pub IsObjectDone : {W E : Type 0} → List ℕ → Subject → Writes W E → Headed → List ℕ → List ℕ → Outputs W E → Outputs W E → ℕ → Type 0
+IsObjectDone {W} program subject by headed label bytes old new status =
+    (result : Result ℕ Fault) × (middle : W)
+    × AreShown subject (heading_for headed label) bytes by.takes old.output middle result
+    × IsEnded program subject by headed label result (outputs middle old.errors) new status
+
+-- that with this number of an input of several, or there is no memory for what it is called
+abbrev pub IsNumberedDone : {W E : Type 0} → List ℕ → Subject → Writes W E → List ℕ → ℕ → List ℕ → Outputs W E → Outputs W E → ℕ → Type 0
+IsNumberedDone program subject by label number bytes old new status =
+    IsObjectDone program subject by (subject.headed true) (numbered label number) bytes old new status
+    ⊎ (IsForgotten program subject by label old new × (status ≡ 2))
+
+-- those behind the first so many, one after the other, and the greatest of their statuses
+abbrev pub AreNumberedDone : {W E : Type 0} → List ℕ → Subject → Writes W E → List ℕ → ℕ → List (List ℕ) → Outputs W E → Outputs W E → ℕ → Type 0
+AreNumberedDone program subject by label before [] old new status = (new ≡ old) × (status ≡ 0)
+AreNumberedDone {W} {E} program subject by label before (bytes ∷ others) old new status =
+    (middle : Outputs W E) × (first : ℕ) × (rest : ℕ)
+    × IsNumberedDone program subject by label (before + 1) bytes old middle first
+    × AreNumberedDone program subject by label (before + 1) others middle new rest
+    × (status ≡ max first rest)
+
+-- the objects of an input: one is called as the input, and of several each has its number
+abbrev pub AreDoneAs : {W E : Type 0} → List ℕ → Subject → Writes W E → Headed → List ℕ → Option (List ℕ) → List (List ℕ) → Outputs W E → Outputs W E → ℕ → Type 0
+AreDoneAs program subject by headed label (Some bytes) objects old new status = IsObjectDone program subject by headed label bytes old new status
+AreDoneAs program subject by headed label None objects old new status = AreNumberedDone program subject by label 0 objects old new status
+
+abbrev pub AreObjectsDone : {W E : Type 0} → List ℕ → Subject → Writes W E → Headed → List ℕ → List (List ℕ) → Outputs W E → Outputs W E → ℕ → Type 0
+AreObjectsDone program subject by headed label objects old new status = AreDoneAs program subject by headed label (one_of (Some objects)) objects old new status
+
+-- what was read is shown, or it is told why there is nothing
+abbrev pub IsReadDone : {W E : Type 0} → List ℕ → Subject → Writes W E → Headed → List ℕ → Result (List (List ℕ)) Fault → Outputs W E → Outputs W E → ℕ → Type 0
+IsReadDone program subject by headed label (Ok objects) old new status = AreObjectsDone program subject by headed label objects old new status
+IsReadDone program subject by headed label (Err fault) old new status = IsRefused program subject by headed label fault old new × (status ≡ 2)
+
+-- an input is read, shown and ended
 abbrev pub IsDone : {R F W E : Type 0} → List ℕ → Subject → World R F W E → Headed → List ℕ → Streams R W E → Streams R W E → ℕ → Type 0
 IsDone program subject world headed name old new status =
-    (result : Result ℕ Fault)
-    × IsNamedShown subject (heading_for headed (label_of name)) world.gives world.opens world.file_gives world.takes (is_standard name) name old.input new.input old.output new.output result
-    × IsEnded program subject (label_of name) world.takes_errors result old.errors new.errors status
+    (read : Result (List (List ℕ)) Fault)
+    × IsNamedReadAs input_objects world.gives world.opens world.file_gives (is_standard name) name old.input new.input read
+    × IsReadDone program subject (writes world.takes world.takes_errors) headed (label_of name) read (outputs old.output old.errors) (outputs new.output new.errors) status
 
 -- inputs one after the other, and the greatest of their statuses
 abbrev pub AreDone : {R F W E : Type 0} → List ℕ → Subject → World R F W E → Headed → List (List ℕ) → Streams R W E → Streams R W E → ℕ → Type 0

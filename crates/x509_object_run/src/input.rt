@@ -1,20 +1,27 @@
 //! The bytes of an object in an input.
 
-ghost use Rattle.std.specs.Prelude.{◌≡◌, IfOk, None};
+ghost use Rattle.std.specs.Prelude.{◌≡◌, ◌∷◌, [], IfOk, None, map};
 ghost use Rattle.std.specs.Option.{option_map};
-ghost use Rattle.x509_object_run.specs.Object.{else_text, object_bytes, one_of, without_blanks};
+ghost use Rattle.x509_object_run.specs.Object.{digits_of, else_text, input_objects, is_between, object_bytes, one_of};
 ghost use Rattle.x509_tool_run.specs.Pem.{pem_objects};
 
 use hex::FromHexError;
 use std::alloc::{AllocError, Global};
 use x509_tool_run::pem_objects;
 
-/// The bytes that are no white space.
-fn without_blanks(alloc: Global, input: &[u8]) -> Result<Vec<u8>, AllocError>
-    ensures { IfOk result (λ digits. digits.items ≡ without_blanks input.now) }
+/// Whether a character may stand between the digits of hex text: white space, or a colon.
+fn is_between(byte: &u8) -> bool
+    ensures { result ≡ is_between byte.now }
+{
+    byte.is_ascii_whitespace() || *byte == b':'
+}
+
+/// The others.
+fn digits_of(alloc: Global, input: &[u8]) -> Result<Vec<u8>, AllocError>
+    ensures { IfOk result (λ digits. digits.items ≡ digits_of input.now) }
 {
     let mut digits = Vec::from_slice(alloc, input)?;
-    digits.retain(|byte| !byte.is_ascii_whitespace());
+    digits.retain(|byte| !is_between(byte));
     Ok(digits)
 }
 
@@ -31,11 +38,11 @@ fn pem_object(alloc: Global, input: &[u8]) -> Result<Option<Vec<u8>>, AllocError
     }
 }
 
-/// The bytes of hex text, with white space wherever it stands; else the input itself.
+/// The bytes of hex text, with white space and colons wherever they stand; else the input itself.
 fn text_bytes(alloc: Global, input: Vec<u8>) -> Result<Vec<u8>, AllocError>
     ensures { IfOk result (λ bytes. bytes.items ≡ else_text input.items None) }
 {
-    let digits = without_blanks(alloc, input.as_slice())?;
+    let digits = digits_of(alloc, input.as_slice())?;
     match hex::decode(alloc, digits.as_slice()) {
         Ok(bytes) => Ok(bytes),
         Err(FromHexError::OutOfMemory) => Err(AllocError),
@@ -44,7 +51,7 @@ fn text_bytes(alloc: Global, input: Vec<u8>) -> Result<Vec<u8>, AllocError>
 }
 
 /// The bytes that an input is of: those of its PEM, where it has one object; those of its hex digits where it is hex text, with white
-/// space wherever it stands; else the input itself. DER of a certificate or a CRL is never PEM or hex text, since it holds control
+/// space and colons wherever they stand; else the input itself. DER of a certificate or a CRL is never PEM or hex text, since it holds control
 /// characters.
 ///
 /// # Errors
@@ -56,5 +63,31 @@ pub fn object_bytes(alloc: Global, input: Vec<u8>) -> Result<Vec<u8>, AllocError
     match pem_object(alloc, input.as_slice())? {
         Some(object) => Ok(object),
         None => text_bytes(alloc, input),
+    }
+}
+
+/// The one object of an input that isn't PEM.
+fn one_object(alloc: Global, input: Vec<u8>) -> Result<Vec<Vec<u8>>, AllocError>
+    ensures { IfOk result (λ objects. map (λ object. object.items) objects.items ≡ else_text input.items None ∷ []) }
+{
+    let bytes = text_bytes(alloc, input)?;
+    let mut objects = Vec::new(alloc);
+    objects.push(bytes)?;
+    Ok(objects)
+}
+
+/// The objects that an input is of: those of its PEM, where it has some; else one, as [`object_bytes`] has it.
+pub(crate) fn input_objects(alloc: Global, input: Vec<u8>) -> Result<Vec<Vec<u8>>, AllocError>
+    ensures { IfOk result (λ objects. map (λ object. object.items) objects.items ≡ input_objects input.items) }
+{
+    match pem_objects(alloc, input.as_slice())? {
+        Some(objects) => {
+            if objects.is_empty() {
+                one_object(alloc, input)
+            } else {
+                Ok(objects)
+            }
+        }
+        None => one_object(alloc, input),
     }
 }

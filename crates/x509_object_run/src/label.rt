@@ -2,8 +2,11 @@
 
 ghost use Rattle.std.specs.Char.{is_ascii_control};
 ghost use Rattle.std.specs.List.{list_any};
-ghost use Rattle.std.specs.Prelude.{◌≡◌};
+ghost use Rattle.std.specs.Prelude.{◌≡◌, IfOk, string_bytes};
 ghost use Rattle.x509_object_run.specs.Labels.{is_standard, label_of, word_label};
+ghost use Rattle.x509_object_run.specs.Object.{numbered};
+
+use std::alloc::{AllocError, Global};
 
 /// Whether a name is that of standard input.
 pub(crate) fn is_standard(name: &str) -> bool
@@ -42,4 +45,11 @@ pub(crate) fn label_of(name: &str) -> &str
         return "(a name with control characters)";
     }
     name
+}
+
+/// What the object with this number of an input of several is called.
+pub(crate) fn numbered(alloc: Global, label: &str, number: usize) -> Result<String, AllocError>
+    ensures { IfOk result (λ text. string_bytes text ≡ numbered label.now number) }
+{
+    format!(in alloc; "{label}, object {number}")
 }

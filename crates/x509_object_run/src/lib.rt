@@ -1,5 +1,5 @@
 //! A program over objects: its words, its inputs, which are DER, PEM or hex text, what it prints, its messages, and its status. What it prints of
-//! an object is for a [`Printer`] to say. Words of our own are explained in `docs/MAP.md`.
+//! an object is for a [`Printer`] to say, and which printer its words ask for for an [`Asked`]. Words of our own are explained in `docs/MAP.md`.
 #![tactic(auto)]
 
 mod fault;
@@ -19,8 +19,8 @@ pub use files::Opener;
 pub use heading::{Headed, Heading, write_headed};
 pub use input::object_bytes;
 pub use label::word_label;
-pub use messages::{fault_words, tell_of_input};
+pub use messages::{fault_words, say, tell_of_input};
 pub use named::read_named;
-pub use printer::Printer;
-pub use program::{obey, refuse_memory, run};
+pub use printer::{Asked, Printer};
+pub use program::{obey, refuse_memory, run, show_all};
 pub use words::{Words, split};

@@ -97,11 +97,7 @@ pub(crate) fn complain_of_memory<P: Printer, E: Sink>(errors: &mut E)
 }
 
 /// Writes texts, and answers status 0; where they can't be written tells so, with status 2.
-pub(crate) fn say<P: Printer, W: Sink, E: Sink>(
-    texts: &[&[u8]],
-    writer: &mut W,
-    errors: &mut E,
-) -> u8
+pub fn say<P: Printer, W: Sink, E: Sink>(texts: &[&[u8]], writer: &mut W, errors: &mut E) -> u8
     ensures { Says P.program.name W.takes E.takes (flat_map (λ text. text.now) texts.now) writer.old writer.new errors.old errors.new result }
 {
     match write_texts(writer, texts) {

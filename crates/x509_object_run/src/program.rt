@@ -8,7 +8,7 @@ ghost use Rattle.x509_object_run.specs.declared.fault.Fault.TheVariants.{Memory}
 
 use crate::files::Opener;
 use crate::messages::{complain_of_memory, say, say_version, tell_misuse};
-use crate::printer::Printer;
+use crate::printer::{Asked, Printer};
 use crate::shown::do_all;
 use crate::words::{has_option, split};
 use std::alloc::{AllocError, Global};
@@ -29,7 +29,7 @@ fn inputs_of<'a, 'b>(names: &'a [&'b str]) -> &'a [&'b str]
     if names.is_empty() { &["-"] } else { names }
 }
 
-/// Shows the inputs that are named, or standard input, and answers the greatest of their statuses.
+/// Shows inputs, and answers the greatest of their statuses.
 fn show_inputs<P: Printer, R: Source, F: Source + Drop, O: Opener<F>, W: Sink, E: Sink>(
     alloc: Global,
     printer: &P,
@@ -49,8 +49,33 @@ fn show_inputs<P: Printer, R: Source, F: Source + Drop, O: Opener<F>, W: Sink, E
     )
 }
 
+/// Shows the inputs that are named, or standard input where none is, and answers the greatest of their statuses.
+pub fn show_all<P: Printer, R: Source, F: Source + Drop, O: Opener<F>, W: Sink, E: Sink>(
+    alloc: Global,
+    printer: &P,
+    names: &[&str],
+    opener: &O,
+    reader: &mut R,
+    writer: &mut W,
+    errors: &mut E,
+) -> u8
+    ensures { AreDone P.program.name (P.subject printer.now) (world_of R.gives (O.opens opener.now) F.gives W.takes E.takes)
+        (are_headed (P.subject printer.now) (inputs_of (map (λ name. name.now) names.now))) (inputs_of (map (λ name. name.now) names.now))
+        (streams reader.old writer.old errors.old) (streams reader.new writer.new errors.new) result }
+{
+    show_inputs(
+        alloc,
+        printer,
+        inputs_of(names),
+        opener,
+        reader,
+        writer,
+        errors,
+    )
+}
+
 /// Does what options and names ask for, as [`run`] does.
-pub fn obey<P: Printer, R: Source, F: Source + Drop, O: Opener<F>, W: Sink, E: Sink>(
+pub fn obey<P: Asked, R: Source, F: Source + Drop, O: Opener<F>, W: Sink, E: Sink>(
     alloc: Global,
     options: &[&str],
     names: &[&str],
@@ -70,15 +95,9 @@ pub fn obey<P: Printer, R: Source, F: Source + Drop, O: Opener<F>, W: Sink, E: S
         return say_version::<P, W, E>(writer, errors);
     }
     match P::from_words(options, names) {
-        Some((printer, names)) => show_inputs(
-            alloc,
-            &printer,
-            inputs_of(names),
-            opener,
-            reader,
-            writer,
-            errors,
-        ),
+        Some((printer, names)) => {
+            show_all(alloc, &printer, names, opener, reader, writer, errors)
+        }
         None => {
             let (what, word, end) = P::misuse(options, names);
             tell_misuse(errors, what, word, end, P::usage());
@@ -89,7 +108,7 @@ pub fn obey<P: Printer, R: Source, F: Source + Drop, O: Opener<F>, W: Sink, E: S
 
 /// Does what the words ask for: shows the inputs that they name, or standard input, and answers the greatest of their statuses; or says
 /// how the program is called, what it does, or its version.
-pub fn run<P: Printer, R: Source, F: Source + Drop, O: Opener<F>, W: Sink, E: Sink>(
+pub fn run<P: Asked, R: Source, F: Source + Drop, O: Opener<F>, W: Sink, E: Sink>(
     alloc: Global,
     words: &[String],
     opener: &O,

@@ -1,21 +1,20 @@
 //! What is printed of an input.
 
-ghost use Rattle.std.specs.Prelude.{◌≡◌, ℕ, List, Result, map, max, MatchResult};
-ghost use Rattle.x509_object_run.specs.Labels.{is_standard, label_of};
-ghost use Rattle.x509_object_run.specs.Object.{AreShown, IsSourceShown, fault_of, heading_for, object_bytes, unread_fault};
-ghost use Rattle.x509_object_run.specs.Program.{AreDone, IsDone, IsFileShown, IsNamedShown, streams, world_of};
-ghost use Rattle.x509_tool_run.specs.Input.{Input, IsRead, Whole};
+ghost use Rattle.std.specs.Option.{option_map};
+ghost use Rattle.std.specs.Prelude.{◌≡◌, ℕ, Some, map, max};
+ghost use Rattle.x509_object_run.specs.Labels.{label_of};
+ghost use Rattle.x509_object_run.specs.Object.{AreShown, heading_for, one_of};
+ghost use Rattle.x509_object_run.specs.Program.{AreDone, AreNumberedDone, AreObjectsDone, IsDone, IsNumberedDone, IsObjectDone, IsRefused, IsTold, outputs, streams, world_of, writes};
 
-use crate::fault::{Fault, OpenError, PrintError, looks_of};
+use crate::fault::{Fault, PrintError, looks_of};
 use crate::files::Opener;
 use crate::heading::{Headed, heading_of};
-use crate::input::object_bytes;
-use crate::label::{is_standard, label_of};
+use crate::label::{label_of, numbered};
 use crate::messages::complain;
+use crate::named::read_named_objects;
 use crate::printer::Printer;
 use std::alloc::{AllocError, Global};
-use x509_der::ErrorKind;
-use x509_tool_run::{Refusal, Sink, Source, read_input};
+use x509_tool_run::{Sink, Source, write_text};
 
 /// Writes what is printed of bytes, under a heading where one is wanted; where they are no object it is told what they look like.
 fn show_bytes<P: Printer, W: Sink>(
@@ -36,84 +35,147 @@ fn show_bytes<P: Printer, W: Sink>(
     }
 }
 
-/// Why an input isn't read.
-fn fault_of(refusal: Refusal) -> Fault
-    ensures { result ≡ fault_of refusal }
+/// Writes a text, as far as it can be.
+fn try_write<W: Sink>(text: &[u8], writer: &mut W)
+    ensures { IsTold W.takes writer.old text.now writer.new }
 {
-    match refusal {
-        Refusal::Read => Fault::Unreadable,
-        Refusal::Because(ErrorKind::Overlength) => Fault::TooLong,
-        Refusal::Because(_) => Fault::Memory,
-    }
+    let _ = write_text(writer, text);
 }
 
-/// Reads an input, and answers the bytes that it is of.
-pub(crate) fn read_object<R: Source>(alloc: Global, reader: &mut R) -> Result<Vec<u8>, Fault>
-    ensures { MatchResult result
-        (λ bytes. (input : List ℕ) × IsRead R.gives reader.old (Whole input) reader.new × (bytes.items ≡ object_bytes input))
-        (λ fault. (input : Input) × IsRead R.gives reader.old input reader.new × (fault ≡ unread_fault input)) }
-{
-    match read_input(alloc, reader) {
-        Ok(input) => match object_bytes(alloc, input) {
-            Ok(bytes) => Ok(bytes),
-            Err(AllocError) => Err(Fault::Memory),
-        },
-        Err(refusal) => Err(fault_of(refusal)),
-    }
-}
-
-/// Reads an input, and writes what is printed of it.
-fn show_source<P: Printer, R: Source, W: Sink>(
+/// Prints and tells why nothing whole is printed.
+fn refuse<P: Printer, W: Sink, E: Sink>(
     alloc: Global,
     printer: &P,
     headed: Headed,
     label: &str,
-    reader: &mut R,
+    fault: Fault,
     writer: &mut W,
-) -> Result<u8, Fault>
-    ensures { IsSourceShown (P.subject printer.now) (heading_for headed label.now) R.gives reader.old reader.new W.takes writer.old writer.new result }
+    errors: &mut E,
+)
+    ensures { IsRefused P.program.name (P.subject printer.now) (writes W.takes E.takes) headed label.now fault
+        (outputs writer.old errors.old) (outputs writer.new errors.new) }
 {
-    match read_object(alloc, reader) {
-        Ok(bytes) => show_bytes(alloc, printer, headed, label, bytes.as_slice(), writer),
-        Err(fault) => Err(fault),
+    match printer.refused(alloc, heading_of(headed, label), fault) {
+        Ok(text) => {
+            try_write(text.as_slice(), writer);
+            complain(printer, label.as_bytes(), fault, errors);
+        }
+        Err(AllocError) => complain(printer, label.as_bytes(), Fault::Memory, errors),
     }
 }
 
-/// Reads the file that was opened, and writes what is printed of it.
-fn show_file<P: Printer, F: Source + Drop, W: Sink>(
+/// Writes what is printed of the bytes of an object or tells why nothing is, and answers the status.
+fn do_object<P: Printer, W: Sink, E: Sink>(
     alloc: Global,
     printer: &P,
     headed: Headed,
     label: &str,
-    opened: Result<F, OpenError>,
+    bytes: &[u8],
     writer: &mut W,
-) -> Result<u8, Fault>
-    ensures { IsFileShown (P.subject printer.now) (heading_for headed label.now) F.gives opened W.takes writer.old writer.new result }
+    errors: &mut E,
+) -> u8
+    ensures { IsObjectDone P.program.name (P.subject printer.now) (writes W.takes E.takes) headed label.now bytes.now
+        (outputs writer.old errors.old) (outputs writer.new errors.new) result }
 {
-    match opened {
-        Ok(mut file) => show_source(alloc, printer, headed, label, &mut file, writer),
-        Err(e) => Err(Fault::Unopened(e)),
+    match show_bytes(alloc, printer, headed, label, bytes, writer) {
+        Ok(status) => status,
+        Err(fault) => {
+            refuse(alloc, printer, headed, label, fault, writer, errors);
+            2
+        }
     }
 }
 
-/// Reads the input of a name, and writes what is printed of it.
-fn show_named<P: Printer, R: Source, F: Source + Drop, O: Opener<F>, W: Sink>(
+/// Does so for that with this number of an input of several.
+fn do_numbered<P: Printer, W: Sink, E: Sink>(
+    alloc: Global,
+    printer: &P,
+    label: &str,
+    number: usize,
+    bytes: &[u8],
+    writer: &mut W,
+    errors: &mut E,
+) -> u8
+    ensures { IsNumberedDone P.program.name (P.subject printer.now) (writes W.takes E.takes) label.now number bytes.now
+        (outputs writer.old errors.old) (outputs writer.new errors.new) result }
+{
+    match numbered(alloc, label, number) {
+        Ok(numbered) => {
+            let headed = printer.headed(true);
+            do_object(
+                alloc,
+                printer,
+                headed,
+                numbered.as_str(),
+                bytes,
+                writer,
+                errors,
+            )
+        }
+        Err(AllocError) => {
+            complain(printer, label.as_bytes(), Fault::Memory, errors);
+            2
+        }
+    }
+}
+
+/// Does so for the objects of an input of several, one after the other, and answers the greatest status.
+fn do_several<P: Printer, W: Sink, E: Sink>(
+    alloc: Global,
+    printer: &P,
+    label: &str,
+    objects: &[Vec<u8>],
+    writer: &mut W,
+    errors: &mut E,
+) -> u8
+    ensures { AreNumberedDone P.program.name (P.subject printer.now) (writes W.takes E.takes) label.now 0 (map (λ object. object.items) objects.now)
+        (outputs writer.old errors.old) (outputs writer.new errors.new) result }
+{
+    let mut worst = 0u8;
+    let mut number = 0usize;
+    for bytes in objects {
+        number += 1;
+        let status = do_numbered(
+            alloc,
+            printer,
+            label,
+            number,
+            bytes.as_slice(),
+            writer,
+            errors,
+        );
+        worst = greater_of(worst, status);
+    }
+    worst
+}
+
+/// The one object, where there is one.
+fn one_of(objects: &[Vec<u8>]) -> Option<&[u8]>
+    ensures { option_map (λ object. object.now) result ≡ one_of (Some (map (λ object. object.items) objects.now)) }
+{
+    match objects {
+        [bytes] => Some(bytes.as_slice()),
+        _ => None,
+    }
+}
+
+/// Does so for the objects of an input.
+fn do_objects<P: Printer, W: Sink, E: Sink>(
     alloc: Global,
     printer: &P,
     headed: Headed,
-    name: &str,
-    opener: &O,
-    reader: &mut R,
+    label: &str,
+    objects: &[Vec<u8>],
     writer: &mut W,
-) -> Result<u8, Fault>
-    ensures { IsNamedShown (P.subject printer.now) (heading_for headed (label_of name.now)) R.gives (O.opens opener.now) F.gives W.takes
-        (is_standard name.now) name.now reader.old reader.new writer.old writer.new result }
+    errors: &mut E,
+) -> u8
+    ensures { AreObjectsDone P.program.name (P.subject printer.now) (writes W.takes E.takes) headed label.now (map (λ object. object.items) objects.now)
+        (outputs writer.old errors.old) (outputs writer.new errors.new) result }
 {
-    let label = label_of(name);
-    if is_standard(name) {
-        return show_source(alloc, printer, headed, label, reader, writer);
+    match one_of(objects) {
+        Some(bytes) => do_object(alloc, printer, headed, label, bytes, writer, errors),
+        None => do_several(alloc, printer, label, objects, writer, errors),
     }
-    show_file(alloc, printer, headed, label, opener.open(name), writer)
 }
 
 /// Reads the input of a name, writes what is printed of it or tells why nothing is, and answers the status.
@@ -130,10 +192,14 @@ fn do_one<P: Printer, R: Source, F: Source + Drop, O: Opener<F>, W: Sink, E: Sin
     ensures { IsDone P.program.name (P.subject printer.now) (world_of R.gives (O.opens opener.now) F.gives W.takes E.takes) headed name.now
         (streams reader.old writer.old errors.old) (streams reader.new writer.new errors.new) result }
 {
-    match show_named(alloc, printer, headed, name, opener, reader, writer) {
-        Ok(status) => status,
+    let label = label_of(name);
+    match read_named_objects::<R, F, O>(alloc, name, opener, reader) {
+        Ok(objects) => {
+            let objects = objects.as_slice();
+            do_objects(alloc, printer, headed, label, objects, writer, errors)
+        }
         Err(fault) => {
-            complain(printer, label_of(name).as_bytes(), fault, errors);
+            refuse(alloc, printer, headed, label, fault, writer, errors);
             2
         }
     }

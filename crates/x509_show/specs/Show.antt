@@ -62,10 +62,11 @@ help =
     codes "usage: x509_show [certificate|crl|csr|anchor] [--json] [FILE..]\n"
     ++ codes "       x509_show --sct-input ISSUER [FILE]\n\n"
     ++ codes "Prints certificates, CRLs, CSRs and trust anchors, in DER, PEM or hex: a line for\n"
-    ++ codes "each thing in them. Without a FILE, and where FILE is -, it reads standard input.\n\n"
+    ++ codes "each thing in them. Of PEM each object is printed by itself. Without a FILE, and where\n"
+    ++ codes "FILE is -, it reads standard input.\n\n"
     ++ codes "  certificate, crl, csr, anchor  what each input is; without such a word it is tried\n"
     ++ codes "                                 as each of them, in this order\n"
-    ++ codes "  --json                         prints a JSON array for each input\n"
+    ++ codes "  --json                         prints a JSON array for each object\n"
     ++ codes "  --sct-input                    prints of each SCT within a certificate the ID of its log,\n"
     ++ codes "                                 what its signature is over (RFC 6962 3.2), and the\n"
     ++ codes "                                 signature, in hex; ISSUER is the certificate of its issuer\n"
@@ -109,4 +110,5 @@ subject show = record {
   is_none = λ bytes. document_of show.kind show.style bytes ≡ None;
   no_object = no_object show.kind;
   headed = headed show.style;
+  refused = λ heading fault. [];
 }

@@ -8,7 +8,7 @@ ghost use Rattle.x509_text.specs.Pieces.{text_of};
 
 use crate::pieces::write_pieces;
 use std::alloc::{AllocError, Global};
-use x509_object_run::{Headed, Heading, PrintError, Printer, write_headed};
+use x509_object_run::{Asked, Fault, Headed, Heading, PrintError, Printer, write_headed};
 use x509_text::{Document, Kind, Style, document_of_bytes, document_of_kind};
 use x509_tool_run::{Sink, WriteError};
 
@@ -16,11 +16,12 @@ const HELP: &[u8] = b"usage: x509_show [certificate|crl|csr|anchor] [--json] [FI
        x509_show --sct-input ISSUER [FILE]
 
 Prints certificates, CRLs, CSRs and trust anchors, in DER, PEM or hex: a line for
-each thing in them. Without a FILE, and where FILE is -, it reads standard input.
+each thing in them. Of PEM each object is printed by itself. Without a FILE, and where
+FILE is -, it reads standard input.
 
   certificate, crl, csr, anchor  what each input is; without such a word it is tried
                                  as each of them, in this order
-  --json                         prints a JSON array for each input
+  --json                         prints a JSON array for each object
   --sct-input                    prints of each SCT within a certificate the ID of its log,
                                  what its signature is over (RFC 6962 3.2), and the
                                  signature, in hex; ISSUER is the certificate of its issuer
@@ -135,40 +136,14 @@ fn write_whole<'a, W: Sink>(
 /// The document of an object under a heading. Nothing is written before the object is known to be one. The document of a CRL is
 /// written piece by piece.
 impl Printer for Show {
-    ghost use Rattle.x509_show.specs.Show.{asked, misuse, program, subject};
-
-    ghost asked = { asked };
-
-    ghost misuse = { misuse };
+    ghost use Rattle.x509_show.specs.Show.{program, subject};
 
     ghost program = { program };
 
     ghost subject = { subject };
 
-    fn from_words<'a, 'b>(options: &[&str], names: &'a [&'b str]) -> Option<(Show, &'a [&'b str])> {
-        match style_of(options) {
-            Some(style) => Some(asked_of(style, names)),
-            None => None,
-        }
-    }
-
-    fn misuse<'b>(
-        _options: &[&'b str],
-        _names: &[&'b str],
-    ) -> (&'static [u8], &'b str, &'static [u8]) {
-        (b"", "", b"")
-    }
-
     fn name() -> &'static [u8] {
         b"x509_show"
-    }
-
-    fn usage() -> &'static [u8] {
-        b"usage: x509_show [certificate|crl|csr|anchor] [--json] [FILE..]\n       x509_show --sct-input ISSUER [FILE]\n"
-    }
-
-    fn help() -> &'static [u8] {
-        HELP
     }
 
     fn no_object(&self) -> &'static [u8] {
@@ -177,6 +152,15 @@ impl Printer for Show {
 
     fn headed(&self, is_several: bool) -> Headed {
         headed(self.style, is_several)
+    }
+
+    fn refused(
+        &self,
+        alloc: Global,
+        _heading: Heading<'_>,
+        _fault: Fault,
+    ) -> Result<Vec<u8>, AllocError> {
+        Ok(Vec::new(alloc))
     }
 
     fn print<W: Sink>(
@@ -192,5 +176,35 @@ impl Printer for Show {
             Ok(None) => Err(PrintError::NoObject),
             Err(AllocError) => Err(PrintError::Memory),
         }
+    }
+}
+
+impl Asked for Show {
+    ghost use Rattle.x509_show.specs.Show.{asked, misuse};
+
+    ghost asked = { asked };
+
+    ghost misuse = { misuse };
+
+    fn from_words<'a, 'b>(options: &[&str], names: &'a [&'b str]) -> Option<(Show, &'a [&'b str])> {
+        match style_of(options) {
+            Some(style) => Some(asked_of(style, names)),
+            None => None,
+        }
+    }
+
+    fn misuse<'b>(
+        _options: &[&'b str],
+        _names: &[&'b str],
+    ) -> (&'static [u8], &'b str, &'static [u8]) {
+        (b"", "", b"")
+    }
+
+    fn usage() -> &'static [u8] {
+        b"usage: x509_show [certificate|crl|csr|anchor] [--json] [FILE..]\n       x509_show --sct-input ISSUER [FILE]\n"
+    }
+
+    fn help() -> &'static [u8] {
+        HELP
     }
 }

@@ -1,0 +1,11 @@
+use Rattle.std.proofs.Common.{map, rules, ◌==◌}
+use Rattle.std.proofs.lemmas.Iterator.Search.{any_from_yields_List}
+use Rattle.std.proofs.lemmas.Iterator.Splits.{YieldsList-from_slice_split}
+use Rattle.x509_linter.specs.Choice.{is_picked}
+use Rattle.x509_linter.proofs.choice.any_picked.Goals as goal
+
+pub returns : goal.returns
+returns c =
+    any_from_yields_List (is_picked (map (λ option. option.now) c.args.options.now)) _ _ c.any.result c.any.ensures.ran
+    (YieldsList-from_slice_split _ (λ octet. octet == 10) c.args.names.now c.split.ensures.rest c.split.ensures.done c.split.ensures.closure (λ x b q k. search rules))
+    (λ x b q k. search rules)

@@ -1,0 +1,456 @@
+//! The names of the rules.
+
+ghost use Rattle.std.specs.List.{list_any};
+ghost use Rattle.std.specs.Prelude.{◌≡◌, ◌==◌, bytes_eq};
+ghost use Rattle.x509_linter.specs.Names as grammar;
+
+/// The names of the rules of `x509_lint` on certificates, in alphabetic order, each in a line.
+const CERTIFICATE_RULES: &[u8] = b"any_extended_key_usage_critical
+any_policy_qualifier_invalid
+authority_cert_issuer_and_serial_apart
+authority_cert_issuer_empty
+authority_info_access_critical
+authority_info_access_empty
+authority_info_access_not_read
+authority_info_access_uri_invalid
+authority_key_identifier_absent
+authority_key_identifier_critical
+authority_key_identifier_not_read
+authority_key_identifier_without_key
+ca_basic_constraints_not_critical
+ca_issuers_ldap_incomplete
+ca_issuers_ldap_without_host
+ca_issuers_without_uri
+ca_repository_without_uri
+ca_subject_empty
+ca_without_key_cert_sign
+ca_without_key_usage
+ca_without_subject_key_identifier
+certificate_policies_empty
+certificate_policies_not_read
+certificate_policy_repeated
+cps_pointer_malformed
+cps_pointer_not_uri
+crl_distribution_points_critical
+crl_distribution_points_empty
+crl_distribution_points_not_read
+crl_issuer_subject_empty
+distribution_point_empty
+distribution_point_issuer_invalid
+distribution_point_ldap_incomplete
+distribution_point_ldap_without_host
+distribution_point_names_empty
+distribution_point_own_issuer
+distribution_point_relative
+distribution_point_relative_to_several
+distribution_point_uri_invalid
+distribution_point_without_uri
+distribution_points_partial
+ec_key_usage_invalid
+ec_parameters_not_named
+ec_point_invalid
+ecdsa_signature_parameters_present
+edwards_key_length
+edwards_key_parameters_present
+edwards_key_usage_invalid
+edwards_signature_parameters_present
+explicit_text_control
+explicit_text_empty
+explicit_text_not_normalized
+explicit_text_not_utf8_string
+explicit_text_too_long
+explicit_text_type
+extended_key_usage_empty
+extended_key_usage_not_read
+extension_malformed
+extension_repeated
+extensions_empty
+extensions_without_v3
+freshest_crl_critical
+freshest_crl_empty
+freshest_crl_not_read
+freshest_crl_point_empty
+freshest_crl_point_issuer_invalid
+freshest_crl_point_ldap_incomplete
+freshest_crl_point_ldap_without_host
+freshest_crl_point_names_empty
+freshest_crl_point_own_issuer
+freshest_crl_point_relative
+freshest_crl_point_relative_to_several
+freshest_crl_point_uri_invalid
+freshest_crl_point_without_uri
+freshest_crl_points_partial
+inhibit_any_policy_not_critical
+issuer_alt_name_address_length
+issuer_alt_name_critical
+issuer_alt_name_directory_name_invalid
+issuer_alt_name_dns_name_invalid
+issuer_alt_name_empty
+issuer_alt_name_empty_name
+issuer_alt_name_mailbox_invalid
+issuer_alt_name_not_read
+issuer_alt_name_smtp_utf8_mailbox_invalid
+issuer_alt_name_srv_name_invalid
+issuer_alt_name_uri_host_invalid
+issuer_alt_name_uri_invalid
+issuer_alt_name_uri_relative
+issuer_country_name_invalid
+issuer_domain_component_invalid
+issuer_empty
+issuer_rdn_empty
+issuer_rdn_type_repeated
+issuer_text_characters
+issuer_text_old_type
+issuer_text_size
+issuer_text_type
+key_cert_sign_without_ca
+key_usage_empty
+key_usage_not_critical
+montgomery_key_without_agreement
+name_constraints_address_length
+name_constraints_address_mask
+name_constraints_empty
+name_constraints_in_leaf
+name_constraints_maximum
+name_constraints_minimum
+name_constraints_not_critical
+name_constraints_not_read
+name_constraints_other_form
+name_constraints_subtrees_empty
+name_constraints_uri_invalid
+not_after_before_not_before
+not_after_not_utc_time
+not_before_not_utc_time
+notice_reference_present
+ocsp_location_not_uri
+ocsp_no_check_critical
+old_rsa_signature_parameters_not_null
+path_len_above_255
+path_len_without_ca
+policy_constraints_empty
+policy_constraints_not_critical
+policy_mapping_any_policy
+policy_mapping_not_asserted
+policy_mappings_empty
+policy_mappings_not_critical
+policy_mappings_not_read
+policy_qualifier_other
+policy_qualifiers_empty
+precertificate_poison_not_critical
+private_key_usage_period_empty
+pss_signature_parameters_absent
+rsa_exponent_invalid
+rsa_key_parameters_not_null
+rsa_modulus_even
+rsa_public_key_malformed
+rsa_signature_parameters_not_null
+serial_number_not_positive
+serial_number_too_long
+signature_algorithms_differ
+subject_alt_name_address_length
+subject_alt_name_critical
+subject_alt_name_directory_name_invalid
+subject_alt_name_dns_name_invalid
+subject_alt_name_empty
+subject_alt_name_empty_name
+subject_alt_name_mailbox_invalid
+subject_alt_name_not_read
+subject_alt_name_smtp_utf8_mailbox_invalid
+subject_alt_name_srv_name_invalid
+subject_alt_name_uri_host_invalid
+subject_alt_name_uri_invalid
+subject_alt_name_uri_relative
+subject_country_name_invalid
+subject_directory_attribute_values_empty
+subject_directory_attributes_critical
+subject_directory_attributes_empty
+subject_directory_attributes_not_read
+subject_domain_component_invalid
+subject_email_not_in_alt_name
+subject_empty_without_critical_alt_name
+subject_info_access_critical
+subject_info_access_empty
+subject_info_access_not_read
+subject_info_access_uri_invalid
+subject_key_identifier_absent
+subject_key_identifier_critical
+subject_rdn_empty
+subject_rdn_type_repeated
+subject_text_characters
+subject_text_old_type
+subject_text_size
+subject_text_type
+unique_identifier_in_v1
+unique_identifier_present
+user_notice_malformed
+version_above_v1
+version_above_v2";
+
+/// Those on CRLs.
+const CRL_RULES: &[u8] = b"authority_info_access_critical
+authority_info_access_not_read
+authority_info_access_other_method
+authority_key_identifier_absent
+authority_key_identifier_critical
+authority_key_identifier_not_read
+authority_key_identifier_without_key
+ca_issuers_without_uri
+crl_number_absent
+crl_number_critical
+crl_number_too_long
+delta_crl_indicator_not_critical
+entry_certificate_issuer_not_critical
+entry_certificate_issuer_not_indirect
+entry_extension_repeated
+entry_extensions_empty
+entry_invalidity_date_critical
+entry_invalidity_date_invalid
+entry_reason_critical
+entry_reason_invalid
+entry_reason_remove_from_crl
+entry_reason_unspecified
+extension_malformed
+extension_repeated
+extensions_empty
+extensions_without_v2
+freshest_crl_critical
+freshest_crl_in_delta
+freshest_crl_not_read
+freshest_crl_reasons_or_issuer
+issuer_alt_name_critical
+issuer_country_name_invalid
+issuer_domain_component_invalid
+issuer_empty
+issuer_rdn_empty
+issuer_rdn_type_repeated
+issuer_text_characters
+issuer_text_old_type
+issuer_text_size
+issuer_text_type
+issuing_distribution_point_attribute_certs
+issuing_distribution_point_empty
+issuing_distribution_point_kinds
+issuing_distribution_point_not_critical
+issuing_distribution_point_not_read
+next_update_absent
+next_update_before_this_update
+next_update_not_utc_time
+revocation_date_not_utc_time
+revoked_certificates_empty
+serial_number_repeated
+signature_algorithms_differ
+this_update_not_utc_time
+version_not_v2";
+
+/// Those on CSRs.
+const CSR_RULES: &[u8] = b"attribute_repeated
+attribute_values_empty
+challenge_password_malformed
+challenge_password_several_values
+challenge_password_size
+challenge_password_type
+extension_malformed
+extension_repeated
+extension_request_malformed
+extension_request_several_values
+extensions_empty
+subject_alt_name_address_length
+subject_alt_name_directory_name_invalid
+subject_alt_name_dns_name_invalid
+subject_alt_name_empty
+subject_alt_name_empty_name
+subject_alt_name_mailbox_invalid
+subject_alt_name_not_read
+subject_alt_name_smtp_utf8_mailbox_invalid
+subject_alt_name_srv_name_invalid
+subject_alt_name_uri_host_invalid
+subject_alt_name_uri_invalid
+subject_alt_name_uri_relative
+subject_country_name_invalid
+subject_domain_component_invalid
+subject_empty_without_alt_name
+subject_rdn_empty
+subject_rdn_type_repeated
+subject_text_characters
+subject_text_old_type
+subject_text_size
+subject_text_type";
+
+/// Those on the descriptions of trust anchors.
+const ANCHOR_RULES: &[u8] = b"certificate_key_differs
+certificate_key_identifier_differs
+certificate_policies_in_exts
+certificate_subject_differs
+extension_malformed
+extension_repeated
+extensions_empty
+inhibit_any_policy_in_exts
+name_constraints_address_length
+name_constraints_address_mask
+name_constraints_empty
+name_constraints_in_exts
+name_constraints_maximum
+name_constraints_minimum
+name_constraints_other_form
+name_constraints_subtrees_empty
+name_constraints_uri_invalid
+policy_constraints_in_exts
+policy_set_empty
+policy_set_qualifiers
+policy_set_repeated
+ta_name_country_name_invalid
+ta_name_domain_component_invalid
+ta_name_empty
+ta_name_rdn_empty
+ta_name_rdn_type_repeated
+ta_name_text_characters
+ta_name_text_old_type
+ta_name_text_size
+ta_name_text_type
+ta_title_lang_tag_invalid
+ta_title_size";
+
+/// The names of the rules of `x509_lint_web`.
+const WEB_RULES: &[u8] = b"access_location_not_http
+access_method_other
+address_reserved
+any_policy_present
+authority_cert_issuer_present
+authority_info_access_absent
+basic_constraints_not_critical
+ca_extended_key_usage_forbidden
+ca_key_usage_not_critical
+ca_key_usage_other
+ca_without_common_name
+ca_without_country
+ca_without_crl_sign
+ca_without_organization
+certificate_policies_absent
+certificate_policies_critical
+common_name_not_as_in_alt_name
+common_name_not_in_alt_name
+common_name_present
+common_name_repeated
+crl_distribution_point_not_http
+crl_distribution_point_partial
+crl_distribution_points_critical
+dns_name_internal
+dns_name_one_label
+dns_name_reserved_label
+dns_name_underscore
+dns_name_wildcard
+domain_validated_attribute
+ec_curve_other
+ec_without_digital_signature
+ecdsa_signature_parameters_present
+extended_key_usage_absent
+extended_key_usage_critical
+extended_key_usage_forbidden
+extended_key_usage_other
+key_algorithm_other
+key_usage_absent
+key_usage_not_critical
+key_usage_not_of_ec
+key_usage_not_of_rsa
+key_usage_of_authority
+organization_validated_without_country
+organization_validated_without_organization
+organizational_unit_present
+policy_qualifier_other
+policy_qualifiers_present
+reserved_policy_absent
+rsa_exponent_invalid
+rsa_exponent_outside
+rsa_key_parameters_not_null
+rsa_modulus_even
+rsa_modulus_short
+rsa_modulus_uneven
+rsa_signature_parameters_not_null
+signature_algorithm_other
+signature_of_sha1
+subject_alt_name_absent
+subject_alt_name_critical
+subject_alt_name_other
+subject_alt_name_without_host
+subject_key_identifier_present
+subordinate_without_crl_points
+subordinate_without_policies
+validity_over_100_days
+validity_over_199_days
+validity_over_200_days
+validity_over_397_days
+validity_over_398_days
+validity_over_46_days
+validity_over_47_days
+validity_over_825_days
+validity_over_99_days
+version_not_v3";
+
+fn is(line: &[u8], name: &[u8]) -> bool
+    ensures { result ≡ bytes_eq line.now name.now }
+{
+    line == name
+}
+
+/// Whether a text has this line.
+fn has_line(text: &[u8], name: &[u8]) -> bool
+    ensures { result ≡ grammar.has_line text.now name.now }
+{
+    text.split(|octet| *octet == b'\n')
+        .any(|line| is(line, name))
+}
+
+/// The names of the rules on certificates.
+#[tactic(auto, unfolding(crate::specs::Names::certificate_rules))]
+pub(crate) fn certificate_rules() -> &'static [u8]
+    ensures { result.now ≡ grammar.certificate_rules }
+{
+    CERTIFICATE_RULES
+}
+
+/// Those on CRLs.
+#[tactic(auto, unfolding(crate::specs::Names::crl_rules))]
+pub(crate) fn crl_rules() -> &'static [u8]
+    ensures { result.now ≡ grammar.crl_rules }
+{
+    CRL_RULES
+}
+
+/// Those on CSRs.
+#[tactic(auto, unfolding(crate::specs::Names::csr_rules))]
+pub(crate) fn csr_rules() -> &'static [u8]
+    ensures { result.now ≡ grammar.csr_rules }
+{
+    CSR_RULES
+}
+
+/// Those on the descriptions of trust anchors.
+#[tactic(auto, unfolding(crate::specs::Names::anchor_rules))]
+pub(crate) fn anchor_rules() -> &'static [u8]
+    ensures { result.now ≡ grammar.anchor_rules }
+{
+    ANCHOR_RULES
+}
+
+/// Those of the Baseline Requirements.
+#[tactic(auto, unfolding(crate::specs::Names::web_rules))]
+pub(crate) fn web_rules() -> &'static [u8]
+    ensures { result.now ≡ grammar.web_rules }
+{
+    WEB_RULES
+}
+
+/// Whether a rule on some object has this name.
+fn is_rule_on_objects(name: &[u8]) -> bool
+    ensures { result ≡ grammar.is_rule_on_objects name.now }
+{
+    (has_line(certificate_rules(), name) || has_line(crl_rules(), name))
+        || (has_line(csr_rules(), name) || has_line(anchor_rules(), name))
+}
+
+/// Whether a rule has this name.
+pub(crate) fn is_rule(name: &[u8]) -> bool
+    ensures { result ≡ grammar.is_rule name.now }
+{
+    is_rule_on_objects(name) || has_line(web_rules(), name)
+}
