@@ -489,6 +489,118 @@ x509_status x509_oid_text(const uint8_t *oid, size_t oid_len, uint8_t *out, size
  * Answers X509_OK, X509_ROOM, X509_FAILED. */
 x509_status x509_oid_from_text(const uint8_t *text, size_t len, uint8_t *out, size_t room, size_t *written);
 
+/* ---- values of extensions, encoded
+ *
+ * These calls write the DER encoding of a value, as `value` of x509_extension_encode holds it, of what the caller says of it; the calls above say the same of
+ * it again. A view is filled in as those calls fill it in: of what is left out both numbers are 0. X509_VALUE where no value is said, as by a 2 where a 1 or a 0
+ * has to be, or one that RFC 5280 doesn't allow. Buffers are as said under whole values. */
+
+/* Writes a BasicConstraints (RFC 5280 4.2.1.9). X509_VALUE also for a path length above 255, or where there is one and `ca` is 0. It takes no memory.
+ * Answers X509_OK, X509_ROOM, X509_VALUE. */
+x509_status x509_basic_constraints_encode(const x509_basic_constraints_view *view, uint8_t *out, size_t room, size_t *written);
+
+/* Writes a KeyUsage (4.2.1.3) of a sum of the numbers above. X509_VALUE where it is 0, has a bit without a name, or has encipherOnly or decipherOnly without
+ * keyAgreement. It takes no memory.
+ * Answers X509_OK, X509_ROOM, X509_VALUE. */
+x509_status x509_key_usage_encode(uint32_t uses, uint8_t *out, size_t room, size_t *written);
+
+/* Writes an ExtendedKeyUsage (4.2.1.12) of `count` purposes: the content octets of their OIDs stand one after the other in oids[0..oids_len), and lens[i] is the
+ * length of the i-th. X509_VALUE where there is none, X509_MALFORMED where no OID has the content octets of one, X509_FAILED where the lengths don't add up to
+ * `oids_len`; where several of these are so, any of their answers may come.
+ * Answers X509_OK, X509_ROOM, X509_MEMORY, X509_OVERLENGTH, X509_MALFORMED, X509_FAILED, X509_VALUE. */
+x509_status x509_extended_key_usage_encode(const uint8_t *oids, size_t oids_len, const size_t *lens, size_t count, uint8_t *out, size_t room, size_t *written);
+
+/* Writes a SubjectKeyIdentifier (4.2.1.2) of these octets, of which there may be none.
+ * Answers X509_OK, X509_ROOM, X509_MEMORY, X509_OVERLENGTH. */
+x509_status x509_subject_key_identifier_encode(const uint8_t *identifier, size_t len, uint8_t *out, size_t room, size_t *written);
+
+/* Writes an AuthorityKeyIdentifier (4.2.1.1): with these octets of the identifier of the issuer's key where `has_key_identifier` isn't 0, and with the names of
+ * the issuer, a whole GeneralNames, and the serial number, a whole INTEGER, of a certificate of that key; where these have no bytes, they are left out.
+ * X509_VALUE where one of the two alone is there, or the list of names is empty (A.2); X509_MALFORMED where they are no such encodings.
+ * Answers X509_OK, X509_ROOM, X509_MEMORY, X509_OVERLENGTH, X509_MALFORMED, X509_VALUE. */
+x509_status x509_authority_key_identifier_encode(uint32_t has_key_identifier, const uint8_t *key_identifier, size_t key_identifier_len, const uint8_t *issuer,
+                                                 size_t issuer_len, const uint8_t *serial_number, size_t serial_number_len, uint8_t *out, size_t room,
+                                                 size_t *written);
+
+/* Writes a PolicyConstraints (4.2.1.11). X509_VALUE also where neither number is there. It takes no memory.
+ * Answers X509_OK, X509_ROOM, X509_VALUE. */
+x509_status x509_policy_constraints_encode(const x509_policy_constraints_view *view, uint8_t *out, size_t room, size_t *written);
+
+/* Writes an InhibitAnyPolicy (4.2.1.14) of any number of certificates. It takes no memory.
+ * Answers X509_OK, X509_ROOM. */
+x509_status x509_inhibit_any_policy_encode(uint32_t certificates, uint8_t *out, size_t room, size_t *written);
+
+/* Writes a CRLNumber (5.2.3) of the octets of the number, the most significant first, zeros in front of which are left out. A BaseCRLNumber (5.2.4) has the same
+ * encoding. X509_VALUE where there are no octets, or the content of the INTEGER would have more than 20.
+ * Answers X509_OK, X509_ROOM, X509_MEMORY, X509_VALUE. */
+x509_status x509_crl_number_encode(const uint8_t *number, size_t len, uint8_t *out, size_t room, size_t *written);
+
+/* Writes the reason code of an entry of a CRL (5.3.1) with this number. X509_VALUE for one that isn't 0 to 6 or 8 to 10. It takes no memory.
+ * Answers X509_OK, X509_ROOM, X509_VALUE. */
+x509_status x509_crl_reason_encode(uint32_t reason, uint8_t *out, size_t room, size_t *written);
+
+/* Writes the invalidity date of an entry of a CRL (5.3.2), in seconds since 1970-01-01T00:00:00Z. X509_VALUE after the year 9999. It takes no memory.
+ * Answers X509_OK, X509_ROOM, X509_VALUE. */
+x509_status x509_invalidity_date_encode(uint64_t moment, uint8_t *out, size_t room, size_t *written);
+
+/* Writes a PrivateKeyUsagePeriod (2.5.29.16). X509_VALUE also where neither moment is there, where the last is before the first, or after the year 9999. It takes no
+ * memory.
+ * Answers X509_OK, X509_ROOM, X509_VALUE. */
+x509_status x509_private_key_usage_period_encode(const x509_private_key_usage_period_view *view, uint8_t *out, size_t room, size_t *written);
+
+/* Writes a GeneralName (4.2.1.6) of one of the kinds above that holds these octets: the ASCII octets of an e-mail address, a DNS name or a URI; the octets of an
+ * address; a whole Name; the content octets of a registered OID; of the other two kinds their fields. X509_VALUE where there is no such kind, X509_MALFORMED where
+ * no name of it holds these octets, as one of a text that isn't ASCII. How a DNS name or a URI is made, and how many octets an address has, isn't looked at.
+ * Answers X509_OK, X509_ROOM, X509_MEMORY, X509_OVERLENGTH, X509_MALFORMED, X509_VALUE. */
+x509_status x509_general_name_encode(uint32_t kind, const uint8_t *content, size_t len, uint8_t *out, size_t room, size_t *written);
+
+/* Writes a GeneralName that is an otherName: of the type with an OID of these content octets, and with this value, a whole element.
+ * Answers X509_OK, X509_ROOM, X509_MEMORY, X509_OVERLENGTH, X509_MALFORMED. */
+x509_status x509_other_name_encode(const uint8_t *type_id, size_t type_id_len, const uint8_t *value, size_t value_len, uint8_t *out, size_t room, size_t *written);
+
+/* Writes a GeneralNames, as a SAN, an IssuerAltName or the CertificateIssuer of an entry of a CRL holds it: `names` are encodings of the names one after the other.
+ * X509_VALUE where there is none, X509_MALFORMED where they are no such encodings.
+ * Answers X509_OK, X509_ROOM, X509_MEMORY, X509_OVERLENGTH, X509_MALFORMED, X509_VALUE. */
+x509_status x509_general_names_encode(const uint8_t *names, size_t len, uint8_t *out, size_t room, size_t *written);
+
+/* Writes an AccessDescription (4.2.2.1): by the method with an OID of these content octets, at this location, a whole GeneralName.
+ * Answers X509_OK, X509_ROOM, X509_MEMORY, X509_OVERLENGTH, X509_MALFORMED. */
+x509_status x509_access_encode(const uint8_t *method, size_t method_len, const uint8_t *location, size_t location_len, uint8_t *out, size_t room, size_t *written);
+
+/* Writes an AuthorityInfoAccess or a SubjectInfoAccess (4.2.2): encodings of its AccessDescriptions are given one after the other. X509_VALUE where there is none.
+ * Answers X509_OK, X509_ROOM, X509_MEMORY, X509_OVERLENGTH, X509_MALFORMED, X509_VALUE. */
+x509_status x509_info_access_encode(const uint8_t *descriptions, size_t len, uint8_t *out, size_t room, size_t *written);
+
+/* Writes the GeneralSubtree (4.2.1.10) of all names at and below this one, a whole GeneralName. That an address is one of a network, with its mask behind it, and
+ * that a DNS name has no wildcard, isn't looked at.
+ * Answers X509_OK, X509_ROOM, X509_MEMORY, X509_OVERLENGTH, X509_MALFORMED. */
+x509_status x509_subtree_encode(const uint8_t *base, size_t len, uint8_t *out, size_t room, size_t *written);
+
+/* Writes a NameConstraints (4.2.1.10): encodings of the permitted subtrees are given one after the other, and of the excluded ones; a list without a byte is left
+ * out. X509_VALUE where both have none.
+ * Answers X509_OK, X509_ROOM, X509_MEMORY, X509_OVERLENGTH, X509_MALFORMED, X509_VALUE. */
+x509_status x509_name_constraints_encode(const uint8_t *permitted, size_t permitted_len, const uint8_t *excluded, size_t excluded_len, uint8_t *out, size_t room,
+                                         size_t *written);
+
+/* Writes a DistributionPoint (4.2.1.13): with its full names, encodings of them one after the other, or its name relative to the issuer of the CRL, a whole
+ * RelativeDistinguishedName; with its reasons, as x509_distribution_point says them; and with the names of the issuer of the CRL, encodings of them one after the
+ * other. What has no byte is left out. X509_VALUE where there are full names and a relative one, where there is no name at all, and where the reasons aren't said, as
+ * by a 2, or one has no name.
+ * Answers X509_OK, X509_ROOM, X509_MEMORY, X509_OVERLENGTH, X509_MALFORMED, X509_VALUE. */
+x509_status x509_distribution_point_encode(const uint8_t *full_name, size_t full_name_len, const uint8_t *relative_name, size_t relative_name_len,
+                                           uint32_t has_reasons, uint32_t reasons, const uint8_t *crl_issuer, size_t crl_issuer_len, uint8_t *out, size_t room,
+                                           size_t *written);
+
+/* Writes a CRLDistributionPoints (4.2.1.13) or a FreshestCRL (4.2.1.15): encodings of the points are given one after the other. X509_VALUE where there is none.
+ * Answers X509_OK, X509_ROOM, X509_MEMORY, X509_OVERLENGTH, X509_MALFORMED, X509_VALUE. */
+x509_status x509_distribution_points_encode(const uint8_t *points, size_t len, uint8_t *out, size_t room, size_t *written);
+
+/* Writes an IssuingDistributionPoint (5.2.5): with its name as x509_distribution_point_encode takes it, and with what the view says beside its spans, which aren't
+ * read. X509_VALUE also where nothing is said, or the CRL speaks of more than one of users, authorities and attribute certificates alone.
+ * Answers X509_OK, X509_ROOM, X509_MEMORY, X509_OVERLENGTH, X509_MALFORMED, X509_VALUE. */
+x509_status x509_issuing_distribution_point_encode(const x509_issuing_distribution_point_view *view, const uint8_t *full_name, size_t full_name_len,
+                                                   const uint8_t *relative_name, size_t relative_name_len, uint8_t *out, size_t room, size_t *written);
+
 /* ---- names
  *
  * A Name is a list of relative names, and each of these a set of attributes; these calls walk over both, as those under payloads do over lists. */
@@ -529,6 +641,11 @@ x509_status x509_name_find(const uint8_t *name, size_t len, const uint8_t *oid, 
  * Refused as the first is that is no Name.
  * Answers X509_OK, X509_MEMORY, X509_OVERLENGTH, X509_MALFORMED. */
 x509_status x509_names_match(const uint8_t *a, size_t a_len, const uint8_t *b, size_t b_len, uint32_t *matches);
+
+/* Checks two Names, and says whether they are equal, byte for byte: `*equal` is 1 where they are, else 0. Refused as the first is that is no Name. It takes no
+ * memory.
+ * Answers X509_OK, X509_OVERLENGTH, X509_MALFORMED. */
+x509_status x509_names_equal(const uint8_t *a, size_t a_len, const uint8_t *b, size_t b_len, uint32_t *equal);
 
 /* Names of values. Here no character of a text is taken for a part of the name, as it is where a text of a name is put together by hand. Rooms are as said
  * under whole values.
@@ -1469,7 +1586,7 @@ x509_status x509_crl_entry_encode(const uint8_t *serial_number, size_t serial_nu
                                   uint8_t *out, size_t room, size_t *written);
 
 /* Writes the bytes to be signed of a CSR (RFC 2986 4.1): for that subject and key, with these attributes, in any order, and with one that asks for these
- * extensions, which stands there where there are none too. X509_SET_DUPLICATE where two attributes are equal.
+ * extensions, which stands there where there are none too. X509_SET_DUPLICATE where two attributes are equal, or one asks for extensions itself.
  * Answers X509_OK, X509_ROOM, X509_MEMORY, X509_OVERLENGTH, X509_MALFORMED, X509_SET_DUPLICATE, X509_REPEATED. */
 x509_status x509_build_request(const uint8_t *subject, size_t subject_len, const uint8_t *key, size_t key_len, const uint8_t *attributes, size_t attributes_len,
                                const uint8_t *extensions, size_t extensions_len, uint8_t *out, size_t room, size_t *written);

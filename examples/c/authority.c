@@ -1,5 +1,5 @@
 /* A small authority: a root (RSA), an intermediate (P-256), a server (Ed25519) by its CSR, and CRLs of the intermediate. The library writes what is to be
- * signed and puts the whole together; the keys, the signatures and the values of extensions are OpenSSL's libcrypto's.
+ * signed, puts the whole together, and encodes what extensions hold; the keys and the signatures are OpenSSL's libcrypto's.
  *
  * It writes root.der, intermediate.der, server.der and request.der into the folder, with the CRLs before.der, which is empty, and after.der, which
  * revokes the server. It ends with 0 where all of them are written, and with 1 else.
@@ -10,7 +10,6 @@
 #include <openssl/evp.h>
 #include <openssl/rsa.h>
 #include <openssl/x509.h>
-#include <openssl/x509v3.h>
 #include <stdint.h>
 #include <stdio.h>
 #include <stdlib.h>
@@ -233,82 +232,116 @@ static int finish(const char *what, const signer *by, buffer *part, buffer *out)
     return is_made;
 }
 
-/* ---- values of extensions, which libcrypto writes */
+/* ---- values of extensions */
 
-/* Adds an extension with the value that libcrypto has written, if it has, and frees that. */
-static int add_written(buffer *to, octets oid, uint32_t critical, unsigned char *der, int len)
+/* Adds an extension with the value that a call writes. */
+static int add_value(buffer *to, octets oid, uint32_t critical, call *write, void *with)
 {
-    buffer made = {NULL, 0};
-    int is_added = 0;
-    if (len > 0) {
-        extension_parts parts = {oid, {der, (size_t)len}, critical};
-        is_added = fill("an extension", write_extension, &parts, &made) && append(to, of(made));
-    }
+    buffer value = {NULL, 0}, made = {NULL, 0};
+    int is_added = fill("the value of an extension", write, with, &value);
+    extension_parts parts = {oid, of(value), critical};
+    is_added = is_added && fill("an extension", write_extension, &parts, &made) && append(to, of(made));
     drop(&made);
-    OPENSSL_free(der);
+    drop(&value);
     return is_added;
 }
 
-/* Adds an extension whose value is said in the words of openssl's configuration. */
-static int add(buffer *to, int nid, octets oid, uint32_t critical, const char *words)
+static x509_status write_constraints(void *with, uint8_t *out, size_t room, size_t *written)
 {
-    X509V3_CTX context;
-    X509V3_set_ctx_nodb(&context);
-    X509V3_set_ctx(&context, NULL, NULL, NULL, NULL, 0);
-    X509_EXTENSION *told = X509V3_EXT_nconf_nid(NULL, &context, nid, words);
-    const ASN1_OCTET_STRING *value = told == NULL ? NULL : X509_EXTENSION_get_data(told);
-    unsigned char *der = value == NULL ? NULL : OPENSSL_memdup(ASN1_STRING_get0_data(value), (size_t)ASN1_STRING_length(value));
-    const int len = der == NULL ? -1 : ASN1_STRING_length(value);
-    X509_EXTENSION_free(told);
-    return add_written(to, oid, critical, der, len);
+    return x509_basic_constraints_encode(with, out, room, written);
 }
 
-/* The SHA-1 digest of the bits of a public key (RFC 5280 4.2.1.2), a new OCTET STRING. */
-static ASN1_OCTET_STRING *identifier(octets key)
+static x509_status write_usage(void *with, uint8_t *out, size_t room, size_t *written)
+{
+    const uint32_t *uses = with;
+    return x509_key_usage_encode(*uses, out, room, written);
+}
+
+/* One purpose, by the content octets of its OID. */
+static x509_status write_purpose(void *with, uint8_t *out, size_t room, size_t *written)
+{
+    const octets *oid = with;
+    return x509_extended_key_usage_encode(oid->bytes, oid->len, &oid->len, 1, out, room, written);
+}
+
+static x509_status write_identifier(void *with, uint8_t *out, size_t room, size_t *written)
+{
+    const octets *it = with;
+    return x509_subject_key_identifier_encode(it->bytes, it->len, out, room, written);
+}
+
+/* The identifier of the key alone. */
+static x509_status write_authority(void *with, uint8_t *out, size_t room, size_t *written)
+{
+    const octets *it = with;
+    return x509_authority_key_identifier_encode(1, it->bytes, it->len, NULL, 0, NULL, 0, out, room, written);
+}
+
+/* Whose certificate it is, and what its key may be used for (RFC 5280 4.2.1.9, 4.2.1.3). */
+static int add_uses(buffer *to, x509_basic_constraints_view constraints, uint32_t uses)
+{
+    return add_value(to, OID_BASIC_CONSTRAINTS, 1, write_constraints, &constraints) && add_value(to, OID_KEY_USAGE, 1, write_usage, &uses);
+}
+
+static x509_status write_dns_name(void *with, uint8_t *out, size_t room, size_t *written)
+{
+    const octets *name = with;
+    return x509_general_name_encode(X509_GENERAL_NAME_DNS, name->bytes, name->len, out, room, written);
+}
+
+static x509_status write_names(void *with, uint8_t *out, size_t room, size_t *written)
+{
+    const buffer *names = with;
+    return x509_general_names_encode(names->bytes, names->len, out, room, written);
+}
+
+/* A SAN of one DNS name (RFC 5280 4.2.1.6). */
+static int add_dns_name(buffer *to, const char *name)
+{
+    buffer names = {NULL, 0};
+    octets text = {(const uint8_t *)name, strlen(name)};
+    const int is_added = fill("a name", write_dns_name, &text, &names) && add_value(to, OID_SUBJECT_ALT_NAME, 0, write_names, &names);
+    drop(&names);
+    return is_added;
+}
+
+/* The SHA-1 digest of the bits of a public key (RFC 5280 4.2.1.2); its length, or 0. */
+static size_t identify(octets key, unsigned char digest[EVP_MAX_MD_SIZE])
 {
     x509_key view;
-    if (x509_key_view(key.bytes, key.len, &view) != X509_OK)
-        return NULL;
-    unsigned char digest[EVP_MAX_MD_SIZE];
     size_t len = 0;
+    if (x509_key_view(key.bytes, key.len, &view) != X509_OK)
+        return 0;
     const octets bits = part_of(key, view.bits);
-    ASN1_OCTET_STRING *made = ASN1_OCTET_STRING_new();
-    if (made != NULL && EVP_Q_digest(NULL, "SHA1", NULL, bits.bytes, bits.len, digest, &len) == 1 && ASN1_OCTET_STRING_set(made, digest, (int)len) == 1)
-        return made;
-    ASN1_OCTET_STRING_free(made);
-    return NULL;
+    return EVP_Q_digest(NULL, "SHA1", NULL, bits.bytes, bits.len, digest, &len) == 1 ? len : 0;
 }
 
 static int add_subject_key(buffer *to, octets key)
 {
-    ASN1_OCTET_STRING *told = identifier(key);
-    unsigned char *der = NULL;
-    const int len = told == NULL ? -1 : i2d_ASN1_OCTET_STRING(told, &der);
-    ASN1_OCTET_STRING_free(told);
-    return add_written(to, OID_SUBJECT_KEY_IDENTIFIER, 0, der, len);
+    unsigned char digest[EVP_MAX_MD_SIZE];
+    octets told = {digest, identify(key, digest)};
+    return told.len > 0 && add_value(to, OID_SUBJECT_KEY_IDENTIFIER, 0, write_identifier, &told);
 }
 
 static int add_authority_key(buffer *to, octets key)
 {
-    AUTHORITY_KEYID *told = AUTHORITY_KEYID_new();
-    unsigned char *der = NULL;
-    int len = -1;
-    if (told != NULL && (told->keyid = identifier(key)) != NULL)
-        len = i2d_AUTHORITY_KEYID(told, &der);
-    AUTHORITY_KEYID_free(told);
-    return add_written(to, OID_AUTHORITY_KEY_IDENTIFIER, 0, der, len);
+    unsigned char digest[EVP_MAX_MD_SIZE];
+    octets told = {digest, identify(key, digest)};
+    return told.len > 0 && add_value(to, OID_AUTHORITY_KEY_IDENTIFIER, 0, write_authority, &told);
 }
 
-/* Why a certificate is revoked (RFC 5280 5.3.1). */
-static int add_reason(buffer *to, long reason)
+static x509_status write_reason(void *with, uint8_t *out, size_t room, size_t *written)
 {
-    ASN1_ENUMERATED *told = ASN1_ENUMERATED_new();
-    unsigned char *der = NULL;
-    int len = -1;
-    if (told != NULL && ASN1_ENUMERATED_set(told, reason) == 1)
-        len = i2d_ASN1_ENUMERATED(told, &der);
-    ASN1_ENUMERATED_free(told);
-    return add_written(to, OID_CRL_REASON, 0, der, len);
+    const uint32_t *reason = with;
+    return x509_crl_reason_encode(*reason, out, room, written);
+}
+
+/* Why a certificate is revoked, by its number (RFC 5280 5.3.1). */
+enum { KEY_COMPROMISE = 1 };
+
+static int add_reason(buffer *to, uint32_t reason)
+{
+    return add_value(to, OID_CRL_REASON, 0, write_reason, &reason);
 }
 
 /* ---- what the authority makes; each takes `extensions`, which it drops */
@@ -345,20 +378,19 @@ static int certify(const party *issuer, long serial, octets subject, octets key,
     return is_made;
 }
 
-static int certify_authority(const party *issuer, long serial, const party *subject, const char *constraints, buffer *out)
+static int certify_authority(const party *issuer, long serial, const party *subject, x509_basic_constraints_view constraints, buffer *out)
 {
     buffer extensions = {NULL, 0};
-    if (add(&extensions, NID_basic_constraints, OID_BASIC_CONSTRAINTS, 1, constraints) &&
-        add(&extensions, NID_key_usage, OID_KEY_USAGE, 1, "keyCertSign,cRLSign"))
+    if (add_uses(&extensions, constraints, X509_KEY_USAGE_KEY_CERT_SIGN | X509_KEY_USAGE_CRL_SIGN))
         return certify(issuer, serial, of(subject->name), of(subject->by.public_key), &extensions, out);
     drop(&extensions);
     return 0;
 }
 
-static int request(const party *subject, const char *names, buffer *out)
+static int request(const party *subject, const char *name, buffer *out)
 {
     buffer extensions = {NULL, 0}, part = {NULL, 0};
-    int is_made = add(&extensions, NID_subject_alt_name, OID_SUBJECT_ALT_NAME, 0, names);
+    int is_made = add_dns_name(&extensions, name);
     request_parts parts = {of(subject->name), of(subject->by.public_key), of(extensions)};
     is_made = is_made && fill("a CSR", write_request, &parts, &part) && finish("a CSR", &subject->by, &part, out);
     drop(&extensions);
@@ -401,10 +433,10 @@ static int certify_server(const party *issuer, long serial, octets csr, buffer *
 {
     x509_request view;
     buffer extensions = {NULL, 0};
+    octets purpose = OCTETS(X509_OID_SERVER_AUTH);
     if (x509_request_view(csr.bytes, csr.len, &view) == X509_OK && is_signed_by_itself(csr) &&
-        add(&extensions, NID_basic_constraints, OID_BASIC_CONSTRAINTS, 1, "CA:FALSE") &&
-        add(&extensions, NID_key_usage, OID_KEY_USAGE, 1, "digitalSignature") &&
-        add(&extensions, NID_ext_key_usage, OID_EXTENDED_KEY_USAGE, 0, "serverAuth") && add_asked(&extensions, csr))
+        add_uses(&extensions, (x509_basic_constraints_view){0, 0, 0}, X509_KEY_USAGE_DIGITAL_SIGNATURE) &&
+        add_value(&extensions, OID_EXTENDED_KEY_USAGE, 0, write_purpose, &purpose) && add_asked(&extensions, csr))
         return certify(issuer, serial, part_of(csr, view.subject), part_of(csr, view.subject_public_key_info), &extensions, out);
     drop(&extensions);
     return 0;
@@ -417,7 +449,7 @@ static int list(octets issuer, const signer *by, uint8_t number, octets revoked,
     int is_made = 1;
     if (revoked.len > 0) {
         x509_certificate view;
-        is_made = x509_certificate_view(revoked.bytes, revoked.len, &view) == X509_OK && add_reason(&extensions, CRL_REASON_KEY_COMPROMISE);
+        is_made = x509_certificate_view(revoked.bytes, revoked.len, &view) == X509_OK && add_reason(&extensions, KEY_COMPROMISE);
         if (is_made) {
             entry_parts parts = {part_of(revoked, view.serial_number), of(extensions)};
             is_made = fill("an entry", write_entry, &parts, &entry);
@@ -451,9 +483,9 @@ static int make_parties(party *parties)
 static int make(const party *parties, buffer *made)
 {
     const party *root = &parties[ROOT], *middle = &parties[INTERMEDIATE];
-    return certify_authority(root, 1, root, "CA:TRUE", &made[ROOT_DER]) &&
-           certify_authority(root, 2, middle, "CA:TRUE,pathlen:0", &made[INTERMEDIATE_DER]) &&
-           request(&parties[SERVER], "DNS:www.example.org", &made[REQUEST_DER]) &&
+    return certify_authority(root, 1, root, (x509_basic_constraints_view){1, 0, 0}, &made[ROOT_DER]) &&
+           certify_authority(root, 2, middle, (x509_basic_constraints_view){1, 1, 0}, &made[INTERMEDIATE_DER]) &&
+           request(&parties[SERVER], "www.example.org", &made[REQUEST_DER]) &&
            certify_server(middle, 3, of(made[REQUEST_DER]), &made[SERVER_DER]) &&
            list(of(made[INTERMEDIATE_DER]), &middle->by, 1, (octets){NULL, 0}, &made[BEFORE_DER]) &&
            list(of(made[INTERMEDIATE_DER]), &middle->by, 2, of(made[SERVER_DER]), &made[AFTER_DER]);

@@ -53,6 +53,33 @@ static void types_by_name(void)
     WANT(memcmp(room, dates, 36) == 0);
 }
 
+/* OCTET STRINGs at the edges of the forms of lengths (X.690 8.1.3): written with the shortest header, as they came. */
+static void lengths(void)
+{
+    static const struct { uint8_t header[4]; size_t header_len, len; } rows[] = {
+        {{0x04, 0x7f}, 2, 127},
+        {{0x04, 0x81, 0x80}, 3, 128},
+        {{0x04, 0x81, 0xff}, 3, 255},
+        {{0x04, 0x82, 0x01, 0x00}, 4, 256},
+        {{0x04, 0x82, 0xff, 0xff}, 4, 65535},
+    };
+    static uint8_t value[65540], out[65540];
+    memset(value, 0xab, sizeof value);
+    for (size_t at = 0; at < sizeof rows / sizeof rows[0]; at++) {
+        const size_t len = rows[at].header_len + rows[at].len;
+        memcpy(value, rows[at].header, rows[at].header_len);
+        WANT(x509_reencode((const uint8_t *)"OctetString", 11, X509_RAW, value, len, out, sizeof out, &written) == X509_OK);
+        WANT(written == len && memcmp(out, value, len) == 0);
+        memset(value, 0xab, rows[at].header_len);
+    }
+    /* three octets of the length */
+    static uint8_t longer[5 + 65536], copy[sizeof longer];
+    memset(longer, 0xab, sizeof longer);
+    memcpy(longer, "\x04\x83\x01\x00\x00", 5);
+    WANT(x509_reencode((const uint8_t *)"OctetString", 11, X509_RAW, longer, sizeof longer, copy, sizeof copy, &written) == X509_OK);
+    WANT(written == sizeof longer && memcmp(copy, longer, sizeof longer) == 0);
+}
+
 static void names(void)
 {
     WANT(x509_name_text(BYTES(NAME), room, sizeof room, &written) == X509_OK && written == 4);
@@ -68,6 +95,81 @@ static void names(void)
     WANT(x509_name_from_text((const uint8_t *)"CN=\xff", 4, room, sizeof room, &written) == X509_FAILED);
     WANT(x509_name_from_text((const uint8_t *)"CN=a+CN=a", 9, room, sizeof room, &written) == X509_SET_DUPLICATE);
     WANT(x509_name_from_text(nothing, 0, room, sizeof room, &written) == X509_OK && written == 2);
+}
+
+/* Texts of RFC 4514, and texts that other readers take for others: each is that of a name, which prints it. The second is of section 4, with a comma in a
+ * value behind three backslashes; in the last an asterisk is in no PrintableString, so the element is printed. */
+static void texts_of_names(void)
+{
+#define ROW(text, name) {text, name, sizeof(name) - 1}
+    static const struct { const char *text, *name; size_t len; } rows[] = {
+        ROW("CN=foo,SN=bar,C=baz+L=bat",
+            "\x30\x36\x31\x18\x30\x0a\x06\x03\x55\x04\x06\x13\x03" "baz" "\x30\x0a\x06\x03\x55\x04\x07\x0c\x03" "bat"
+            "\x31\x0c\x30\x0a\x06\x03\x55\x04\x04\x0c\x03" "bar" "\x31\x0c\x30\x0a\x06\x03\x55\x04\x03\x0c\x03" "foo"),
+        ROW("CN=a\\\\\\,b", "\x30\x0f\x31\x0d\x30\x0b\x06\x03\x55\x04\x03\x0c\x04" "a\\,b"),
+        ROW("CN=a\\\\,O=b", "\x30\x19\x31\x0a\x30\x08\x06\x03\x55\x04\x0a\x0c\x01" "b" "\x31\x0b\x30\x09\x06\x03\x55\x04\x03\x0c\x02" "a\\"),
+        ROW("", "\x30\x00"),
+        ROW("1.3.6.1.4.1.1466.0=#04024869", "\x30\x12\x31\x10\x30\x0e\x06\x08\x2b\x06\x01\x04\x01\x8b\x3a\x00\x04\x02" "Hi"),
+        ROW("CN=\\#x", "\x30\x0d\x31\x0b\x30\x09\x06\x03\x55\x04\x03\x0c\x02" "#x"),
+        ROW("CN=a\\0ab", "\x30\x0e\x31\x0c\x30\x0a\x06\x03\x55\x04\x03\x0c\x03" "a\nb"),
+        ROW("2.5.4.6=#13012a", "\x30\x0c\x31\x0a\x30\x08\x06\x03\x55\x04\x06\x13\x01" "*"),
+    };
+    for (size_t at = 0; at < sizeof rows / sizeof rows[0]; at++) {
+        const uint8_t *const text = (const uint8_t *)rows[at].text;
+        WANT(wrote(x509_name_from_text(text, strlen(rows[at].text), room, sizeof room, &written), rows[at].name, rows[at].len));
+        WANT(x509_name_text((const uint8_t *)rows[at].name, rows[at].len, room, sizeof room, &written) == X509_OK && is_written(rows[at].text));
+    }
+    /* names of types are read in either case, in short and in full, and digits in either case */
+    static const char *const spellings[] = {"cn=foo", "commonName=foo", "COMMONNAME=foo", "2.5.4.3=fo\\6F", "Cn=#0C03666F6f"};
+    for (size_t at = 0; at < sizeof spellings / sizeof spellings[0]; at++)
+        WANT(wrote(x509_name_from_text((const uint8_t *)spellings[at], strlen(spellings[at]), room, sizeof room, &written),
+                   "\x30\x0e\x31\x0c\x30\x0a\x06\x03\x55\x04\x03\x0c\x03" "foo", 16));
+    /* no names: the first that is wrong is told */
+    static const char *const none[] = {"CN=a,", "CN=a\\", "CN=a\\4", "CN=#0", "CN=#", "=a", "CN", "X=1", "CN=a+CN=a+CN=\\",
+                                       "CN=a\\4,CN=b+CN=b"};
+    for (size_t at = 0; at < sizeof none / sizeof none[0]; at++)
+        WANT(x509_name_from_text((const uint8_t *)none[at], strlen(none[at]), room, sizeof room, &written) == X509_FAILED);
+    WANT(x509_name_from_text(BYTES("CN=b+CN=b,CN=a\\4"), room, sizeof room, &written) == X509_SET_DUPLICATE);
+}
+
+/* The types of attributes that have names (RFC 4519 2, RFC 5280 A.1, RFC 2985 5.2.1, X.520): a text with the one that is printed, one with that in full, the
+ * OID, and the tag of a value that is read from a text. */
+static void types_of_attributes(void)
+{
+#define TYPE(printed, in_full, oid, tag) {printed, in_full, oid, sizeof(oid) - 1, tag}
+    static const struct { const char *printed, *in_full, *oid; size_t len; uint8_t tag; } rows[] = {
+        TYPE("CN=a", "commonName=a", "\x55\x04\x03", 0x0c),
+        TYPE("SN=a", "surname=a", "\x55\x04\x04", 0x0c),
+        TYPE("L=a", "localityName=a", "\x55\x04\x07", 0x0c),
+        TYPE("ST=a", "stateOrProvinceName=a", "\x55\x04\x08", 0x0c),
+        TYPE("STREET=a", "streetAddress=a", "\x55\x04\x09", 0x0c),
+        TYPE("O=a", "organizationName=a", "\x55\x04\x0a", 0x0c),
+        TYPE("OU=a", "organizationalUnitName=a", "\x55\x04\x0b", 0x0c),
+        TYPE("TITLE=a", "title=a", "\x55\x04\x0c", 0x0c),
+        TYPE("DESCRIPTION=a", "description=a", "\x55\x04\x0d", 0x0c),
+        TYPE("POSTALCODE=a", "postalCode=a", "\x55\x04\x11", 0x0c),
+        TYPE("NAME=a", "name=a", "\x55\x04\x29", 0x0c),
+        TYPE("GIVENNAME=a", "givenName=a", "\x55\x04\x2a", 0x0c),
+        TYPE("INITIALS=a", "initials=a", "\x55\x04\x2b", 0x0c),
+        TYPE("GENERATIONQUALIFIER=a", "generationQualifier=a", "\x55\x04\x2c", 0x0c),
+        TYPE("DNQUALIFIER=a", "dnQualifier=a", "\x55\x04\x2e", 0x0c),
+        TYPE("PSEUDONYM=a", "pseudonym=a", "\x55\x04\x41", 0x0c),
+        TYPE("UID=a", "userId=a", "\x09\x92\x26\x89\x93\xf2\x2c\x64\x01\x01", 0x0c),
+        TYPE("SERIALNUMBER=a", "serialNumber=a", "\x55\x04\x05", 0x13),
+        TYPE("C=a", "countryName=a", "\x55\x04\x06", 0x13),
+        TYPE("DC=a", "domainComponent=a", "\x09\x92\x26\x89\x93\xf2\x2c\x64\x01\x19", 0x16),
+        TYPE("EMAILADDRESS=a", "emailAddress=a", "\x2a\x86\x48\x86\xf7\x0d\x01\x09\x01", 0x16),
+    };
+    for (size_t at = 0; at < sizeof rows / sizeof rows[0]; at++) {
+        const uint8_t len = (uint8_t)rows[at].len;
+        uint8_t name[32] = {0x30, (uint8_t)(len + 9), 0x31, (uint8_t)(len + 7), 0x30, (uint8_t)(len + 5), 0x06, len};
+        memcpy(name + 8, rows[at].oid, len);
+        memcpy(name + 8 + len, (const uint8_t[]){rows[at].tag, 1, 'a'}, 3);
+        const char *const texts[] = {rows[at].printed, rows[at].in_full};
+        for (int of = 0; of < 2; of++)
+            WANT(wrote(x509_name_from_text((const uint8_t *)texts[of], strlen(texts[of]), room, sizeof room, &written), (const char *)name, len + 11u));
+        WANT(x509_name_text(name, len + 11u, room, sizeof room, &written) == X509_OK && is_written(rows[at].printed));
+    }
 }
 
 static void signed_parts(void)
@@ -1117,7 +1219,10 @@ int main(int argc, char **argv)
     read_files(argc, argv);
     whole_values();
     types_by_name();
+    lengths();
     names();
+    texts_of_names();
+    types_of_attributes();
     signed_parts();
     dates();
     signatures();

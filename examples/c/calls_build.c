@@ -44,6 +44,8 @@ static void built_requests(void)
                             nothing, 0, room, sizeof room, &written) == X509_SET_DUPLICATE && written == 77);
     WANT(x509_build_request(BYTES("\x30\x00"), BYTES(KEY), BYTES("\x30\x0f\x06\x09\x2a\x86\x48\x86\xf7\x0d\x01\x09\x0e\x31\x02\x30\x00"), nothing, 0,
                             room, sizeof room, &written) == X509_SET_DUPLICATE && written == 77);
+    WANT(x509_build_request(BYTES("\x30\x00"), BYTES(KEY), BYTES("\x30\x0d\x06\x09\x2a\x86\x48\x86\xf7\x0d\x01\x09\x0e\x31\x00"), nothing, 0, room, sizeof room,
+                            &written) == X509_SET_DUPLICATE && written == 77);
     WANT(WROTE(x509_assemble(BYTES(REQUEST), BYTES(ALGORITHM), nothing, 0, room, sizeof room, &written), "\x30\x33" REQUEST ALGORITHM "\x03\x01\x00"));
     WANT(x509_request_check(room, written) == X509_OK);
     WANT(WROTE(x509_assemble(BYTES(REQUEST), BYTES(ALGORITHM), BYTES("*"), room, sizeof room, &written), "\x30\x34" REQUEST ALGORITHM "\x03\x02\x00*"));
@@ -145,8 +147,11 @@ static void built_certificates(void)
 #define DEVICE_PART "\x30\x81\x8f" V3 NAME VALIDITY NAME KEY "\xa3\x33\x30\x31" AKI_OF(EMPTY_DIGEST) KEY_USAGE("\x07\x80")
 /* The name of a hardware module (RFC 4108 5) of type 1.2.3.4 with the serial number ab, as GeneralNames, and another name of that type; and the part with the
  * first. */
-#define MODULE "\x30\x17\xa0\x15\x06\x08\x2b\x06\x01\x05\x05\x07\x08\x04\xa0\x09\x30\x07\x06\x02\x2a\x03\x04\x01\xab"
-#define NO_MODULE "\x30\x10\xa0\x0e\x06\x08\x2b\x06\x01\x05\x05\x07\x08\x04\xa0\x02\x05\x00"
+#define A_MODULE "\xa0\x15\x06\x08\x2b\x06\x01\x05\x05\x07\x08\x04\xa0\x09\x30\x07\x06\x02\x2a\x03\x04\x01\xab"
+#define NOT_A_MODULE "\xa0\x0e\x06\x08\x2b\x06\x01\x05\x05\x07\x08\x04\xa0\x02\x05\x00"
+#define REGISTERED "\x88\x03\x2a\x03\x05"
+#define MODULE "\x30\x17" A_MODULE
+#define NO_MODULE "\x30\x10" NOT_A_MODULE
 #define MODULE_PART "\x30\x81\xb1" V3 NAME VALIDITY NAME KEY "\xa3\x55\x30\x53" AKI_OF(EMPTY_DIGEST) KEY_USAGE("\x07\x80") \
                     "\x30\x20\x06\x03\x55\x1d\x11\x04\x19" MODULE
 
@@ -202,6 +207,7 @@ static void built_subscribers(void)
     WANT(WROTE(x509_build_subscriber(NUMBER_AND_ALGORITHM, ISSUER_AND_DATES, BYTES(ROOT_NAME), BYTES(KEY), 0, 1, 1, 1, NULL, 0, OUT), SUBSCRIBER_PART));
     WANT(ends_with_usage(x509_build_subscriber(NUMBER_AND_ALGORITHM, ISSUER_AND_DATES, BYTES(NAME), BYTES(RSA_KEY), 0, 1, 1, 0, nothing, 0, OUT), 5, 0xa0));
     WANT(ends_with_usage(x509_build_subscriber(NUMBER_AND_ALGORITHM, ISSUER_AND_DATES, BYTES(NAME), BYTES(RSA_KEY), 0, 0, 1, 1, nothing, 0, OUT), 4, 0x90));
+    WANT(ends_with_usage(x509_build_subscriber(NUMBER_AND_ALGORITHM, ISSUER_AND_DATES, BYTES(NAME), BYTES(RSA_KEY), 1, 1, 1, 1, nothing, 0, OUT), 4, 0xb0));
     WANT(ends_with_usage(x509_build_subscriber(NUMBER_AND_ALGORITHM, ISSUER_AND_DATES, BYTES(NAME), BYTES(EC_KEY), 0, 1, 1, 1, nothing, 0, OUT), 3, 0x88));
     WANT(ends_with_usage(x509_build_subscriber(NUMBER_AND_ALGORITHM, ISSUER_AND_DATES, BYTES(NAME), BYTES(EC_KEY), 1, 1, 0, 1, nothing, 0, OUT), 7, 0x80));
     const char behind[] = FOR_BOTH NO_AUTHORITY KEY_USAGE("\x07\x80");
@@ -224,6 +230,12 @@ static void built_devices(void)
          && written == 77);
     WANT(x509_build_device(NUMBER_AND_ALGORITHM, ISSUER_AND_DATES, BYTES(NAME), BYTES(KEY), BYTES("\x30\x03\x82\x01" "a"), nothing, 0, OUT) == X509_FAILED);
     WANT(x509_build_device(NUMBER_AND_ALGORITHM, ISSUER_AND_DATES, BYTES(NAME), BYTES(KEY), BYTES(NO_MODULE), nothing, 0, OUT) == X509_MALFORMED);
+    /* behind a registered identifier: one, and another name of its type, which is read before it */
+    WANT(x509_build_device(NUMBER_AND_ALGORITHM, ISSUER_AND_DATES, BYTES(NAME), BYTES(KEY), BYTES("\x30\x1c" REGISTERED A_MODULE), nothing, 0, OUT) == X509_OK);
+    WANT(written > 28 && memcmp(room + written - 28, REGISTERED A_MODULE, 28) == 0);
+    written = 77;
+    WANT(x509_build_device(NUMBER_AND_ALGORITHM, ISSUER_AND_DATES, BYTES(NAME), BYTES(KEY), BYTES("\x30\x2c" REGISTERED NOT_A_MODULE A_MODULE), nothing, 0, OUT)
+         == X509_MALFORMED);
     WANT(x509_build_device(NUMBER_AND_ALGORITHM, ISSUER_AND_DATES, BYTES(NAME), BYTES(KEY), BYTES("\x05\x00"), nothing, 0, OUT) == X509_MALFORMED
          && written == 77);
 }

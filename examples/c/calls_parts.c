@@ -98,6 +98,7 @@ static void moments(void)
     WANT(x509_time_from_text(BYTES("2026-01-02T03:04:05z"), &moment) == X509_FAILED
          && x509_time_from_text(BYTES("2026-01-02T03:04:05\xff"), &moment) == X509_FAILED);
     WANT(moment == 77 && x509_time_from_text(BYTES("2026-01-02T03:04:05Z"), &moment) == X509_OK && moment == MOMENT);
+    WANT(x509_time_from_text(BYTES("2002-01-01T12:01:00Z"), &moment) == X509_OK && moment == 1009886460);
     WANT(x509_time_from_text(BYTES("1970-01-01T00:00:00Z"), &moment) == X509_OK && moment == 0);
     WANT(x509_time_from_text(BYTES("9999-12-31T23:59:59Z"), &moment) == X509_OK && moment == 253402300799);
 }

@@ -413,6 +413,11 @@ static uint32_t match(const uint8_t *a, size_t a_len, const uint8_t *b, size_t b
     const x509_status status = x509_names_match(a, a_len, b, b_len, &matches);
     WANT(x509_names_match(b, b_len, a, a_len, &turned) == status && turned == matches);
     WANT(status == X509_OK ? matches <= 1 : matches == 7);
+    uint32_t equal = 7;
+    const int is_same = a_len == b_len && (a_len == 0 || memcmp(a, b, a_len) == 0);
+    const x509_status told = x509_names_equal(a, a_len, b, b_len, &equal);
+    WANT(status == X509_MEMORY || told == status);
+    WANT(told == X509_OK ? equal == (uint32_t)is_same : equal == 7);
     return matches;
 }
 
@@ -445,6 +450,12 @@ static void matching_names(void)
 {
     uint32_t matches = 7;
     WANT(x509_names_match(nothing, 0, nothing, 0, &matches) == X509_MALFORMED && matches == 7);
+    WANT(x509_names_equal(nothing, 0, nothing, 0, &matches) == X509_MALFORMED && matches == 7);
+    WANT(x509_names_equal(BYTES(NAME), nothing, 0, &matches) == X509_MALFORMED && matches == 7);
+    WANT(x509_names_equal(BYTES(TURNED), BYTES(TURNED), &matches) == X509_MALFORMED && matches == 7);
+    WANT(x509_names_equal(BYTES(NAME), BYTES(NAME), &matches) == X509_OK && matches == 1);
+    WANT(x509_names_equal(BYTES(NAME), BYTES("\x30\x00"), &matches) == X509_OK && matches == 0);
+    matches = 7;
     WANT(x509_names_match(BYTES(NAME), nothing, 0, &matches) == X509_MALFORMED && matches == 7);
     WANT(x509_names_match(nothing, 0, BYTES(NAME), &matches) == X509_MALFORMED && matches == 7);
     WANT(x509_names_match(BYTES(TURNED), BYTES(TURNED), &matches) == X509_MALFORMED && matches == 7);
@@ -531,6 +542,221 @@ static void extensions(void)
     WANT(x509_extended_key_usage_next(BYTES("\x30\x0a\x06\x08" X509_OID_SERVER_AUTH), &at, &purpose) == X509_OK && at == 12 && is_at(purpose, 4, 8));
     WANT(x509_extended_key_usage_next(BYTES("\x30\x0a\x06\x08" X509_OID_SERVER_AUTH), &at, &purpose) == X509_ABSENT && at == 12 && is_at(purpose, 4, 8));
 }
+
+/* What the calls above say, encoded again, with the encodings of X.690 (8.2, 8.3, 8.6, 8.19, 11.2), and what no value says (RFC 5280 4.2.1, 5.2.3). */
+static void encoded(void)
+{
+#define OUT room, sizeof room, &written
+#define REFUSED(call, status) (written = 77, (call) == (status) && written == 77)
+    x509_basic_constraints_view constraints = {1, 1, 128};
+    WANT(WROTE(x509_basic_constraints_encode(&constraints, OUT), "\x30\x07\x01\x01\xff\x02\x02\x00\x80"));
+    WANT(x509_basic_constraints_encode(&constraints, room, 8, &written) == X509_ROOM && written == 9);
+    WANT(WROTE(x509_basic_constraints_encode(&(x509_basic_constraints_view){1, 1, 0}, OUT), "\x30\x06\x01\x01\xff\x02\x01\x00"));
+    WANT(WROTE(x509_basic_constraints_encode(&(x509_basic_constraints_view){1, 0, 0}, OUT), "\x30\x03\x01\x01\xff"));
+    WANT(WROTE(x509_basic_constraints_encode(&(x509_basic_constraints_view){0, 0, 0}, OUT), "\x30\x00"));
+    const x509_basic_constraints_view bad[] = {{0, 1, 0}, {1, 1, 256}, {2, 0, 0}, {1, 2, 0}, {1, 0, 5}};
+    for (size_t at = 0; at < sizeof bad / sizeof bad[0]; at++)
+        WANT(REFUSED(x509_basic_constraints_encode(&bad[at], OUT), X509_VALUE));
+
+    WANT(WROTE(x509_key_usage_encode(X509_KEY_USAGE_KEY_CERT_SIGN | X509_KEY_USAGE_CRL_SIGN, OUT), "\x03\x02\x01\x06"));
+    WANT(WROTE(x509_key_usage_encode(X509_KEY_USAGE_DIGITAL_SIGNATURE, OUT), "\x03\x02\x07\x80"));
+    WANT(WROTE(x509_key_usage_encode(X509_KEY_USAGE_KEY_AGREEMENT | X509_KEY_USAGE_DECIPHER_ONLY, OUT), "\x03\x03\x07\x08\x80"));
+    WANT(WROTE(x509_key_usage_encode(X509_KEY_USAGE_KEY_AGREEMENT | X509_KEY_USAGE_ENCIPHER_ONLY, OUT), "\x03\x02\x00\x09"));
+    WANT(x509_key_usage_encode(X509_KEY_USAGE_CRL_SIGN, room, 3, &written) == X509_ROOM && written == 4);
+    const uint32_t unusable[] = {0, X509_KEY_USAGE_ENCIPHER_ONLY, X509_KEY_USAGE_DECIPHER_ONLY, 0x200, 0x201, 0x10001};
+    for (size_t at = 0; at < sizeof unusable / sizeof unusable[0]; at++)
+        WANT(REFUSED(x509_key_usage_encode(unusable[at], OUT), X509_VALUE));
+
+    /* 1.2.3 and 1.2.3.4 */
+    WANT(WROTE(x509_extended_key_usage_encode(BYTES("\x2a\x03\x2a\x03\x04"), (const size_t[]){2, 3}, 2, OUT), "\x30\x09\x06\x02\x2a\x03\x06\x03\x2a\x03\x04"));
+    WANT(x509_extended_key_usage_encode(BYTES("\x2a\x03"), (const size_t[]){2}, 1, room, 5, &written) == X509_ROOM && written == 6);
+    WANT(REFUSED(x509_extended_key_usage_encode(BYTES("\x2a\x03"), (const size_t[]){1}, 1, OUT), X509_FAILED));
+    WANT(REFUSED(x509_extended_key_usage_encode(BYTES("\x2a\x03"), (const size_t[]){2, SIZE_MAX}, 2, OUT), X509_FAILED));
+    WANT(REFUSED(x509_extended_key_usage_encode(BYTES("\x2a\x03\x80"), (const size_t[]){2, 1}, 2, OUT), X509_MALFORMED));
+    WANT(REFUSED(x509_extended_key_usage_encode(BYTES("\x2a\x03"), (const size_t[]){2, 0}, 2, OUT), X509_MALFORMED));
+    WANT(REFUSED(x509_extended_key_usage_encode(nothing, 0, NULL, 0, OUT), X509_VALUE));
+
+    WANT(WROTE(x509_subject_key_identifier_encode(BYTES("\xab\xcd"), OUT), "\x04\x02\xab\xcd"));
+    WANT(WROTE(x509_subject_key_identifier_encode(nothing, 0, OUT), "\x04\x00"));
+    WANT(x509_subject_key_identifier_encode(BYTES("\xab\xcd"), room, 3, &written) == X509_ROOM && written == 4);
+
+    /* the names and the serial number of a certificate: a DNS name, and 5 */
+#define NAMES BYTES("\x30\x03\x82\x01" "a")
+#define SERIAL BYTES("\x02\x01\x05")
+    WANT(WROTE(x509_authority_key_identifier_encode(1, BYTES("\xab\xcd"), nothing, 0, nothing, 0, OUT), "\x30\x04\x80\x02\xab\xcd"));
+    WANT(WROTE(x509_authority_key_identifier_encode(1, nothing, 0, nothing, 0, nothing, 0, OUT), "\x30\x02\x80\x00"));
+    WANT(WROTE(x509_authority_key_identifier_encode(0, nothing, 0, nothing, 0, nothing, 0, OUT), "\x30\x00"));
+    WANT(WROTE(x509_authority_key_identifier_encode(0, nothing, 0, NAMES, SERIAL, OUT), "\x30\x08\xa1\x03\x82\x01" "a\x82\x01\x05"));
+    WANT(WROTE(x509_authority_key_identifier_encode(1, BYTES("\xab"), NAMES, SERIAL, OUT), "\x30\x0b\x80\x01\xab\xa1\x03\x82\x01" "a\x82\x01\x05"));
+    WANT(x509_authority_key_identifier_encode(1, BYTES("\xab\xcd"), nothing, 0, nothing, 0, room, 5, &written) == X509_ROOM && written == 6);
+    WANT(REFUSED(x509_authority_key_identifier_encode(1, BYTES("\xab"), NAMES, nothing, 0, OUT), X509_VALUE));
+    WANT(REFUSED(x509_authority_key_identifier_encode(1, BYTES("\xab"), nothing, 0, SERIAL, OUT), X509_VALUE));
+    WANT(REFUSED(x509_authority_key_identifier_encode(1, BYTES("\xab"), BYTES("\x30\x00"), SERIAL, OUT), X509_VALUE));
+    WANT(REFUSED(x509_authority_key_identifier_encode(1, BYTES("\xab"), BYTES("\x30\x03\x82\x01\xff"), SERIAL, OUT), X509_MALFORMED));
+    WANT(REFUSED(x509_authority_key_identifier_encode(1, BYTES("\xab"), NAMES, BYTES("\x02\x00"), OUT), X509_MALFORMED));
+#undef SERIAL
+#undef NAMES
+
+    WANT(WROTE(x509_policy_constraints_encode(&(x509_policy_constraints_view){1, 0, 1, 4294967295}, OUT), "\x30\x0a\x80\x01\x00\x81\x05\x00\xff\xff\xff\xff"));
+    WANT(WROTE(x509_policy_constraints_encode(&(x509_policy_constraints_view){0, 0, 1, 5}, OUT), "\x30\x03\x81\x01\x05"));
+    WANT(WROTE(x509_policy_constraints_encode(&(x509_policy_constraints_view){1, 5, 0, 0}, OUT), "\x30\x03\x80\x01\x05"));
+    WANT(x509_policy_constraints_encode(&(x509_policy_constraints_view){1, 5, 0, 0}, room, 4, &written) == X509_ROOM && written == 5);
+    const x509_policy_constraints_view none[] = {{0, 0, 0, 0}, {2, 0, 0, 0}, {0, 5, 1, 0}, {1, 0, 0, 5}};
+    for (size_t at = 0; at < sizeof none / sizeof none[0]; at++)
+        WANT(REFUSED(x509_policy_constraints_encode(&none[at], OUT), X509_VALUE));
+
+    WANT(WROTE(x509_inhibit_any_policy_encode(0, OUT), "\x02\x01\x00") && WROTE(x509_inhibit_any_policy_encode(128, OUT), "\x02\x02\x00\x80"));
+    WANT(WROTE(x509_inhibit_any_policy_encode(4294967295, OUT), "\x02\x05\x00\xff\xff\xff\xff"));
+    WANT(x509_inhibit_any_policy_encode(0, room, 2, &written) == X509_ROOM && written == 3);
+
+    const char longest[] = "\x7f" "0123456789abcdefghi", longer[] = "\x80" "0123456789abcdefghi";
+    WANT(WROTE(x509_crl_number_encode(BYTES("\x00\x00\x80"), OUT), "\x02\x02\x00\x80") && WROTE(x509_crl_number_encode(BYTES("\x00"), OUT), "\x02\x01\x00"));
+    WANT(WROTE(x509_crl_number_encode(BYTES(longest), OUT), "\x02\x14\x7f" "0123456789abcdefghi"));
+    WANT(x509_crl_number_encode(BYTES("\x05"), room, 2, &written) == X509_ROOM && written == 3);
+    WANT(REFUSED(x509_crl_number_encode(BYTES(longer), OUT), X509_VALUE) && REFUSED(x509_crl_number_encode(nothing, 0, OUT), X509_VALUE));
+}
+
+/* Values that are written of numbers, and read again. */
+static void encoded_moments(void)
+{
+    uint32_t reason = 77;
+    uint64_t moment = 77;
+    WANT(WROTE(x509_crl_reason_encode(10, OUT), "\x0a\x01\x0a") && WROTE(x509_crl_reason_encode(0, OUT), "\x0a\x01\x00"));
+    WANT(x509_crl_reason(room, written, &reason) == X509_OK && reason == 0);
+    WANT(x509_crl_reason_encode(1, room, 2, &written) == X509_ROOM && written == 3);
+    WANT(REFUSED(x509_crl_reason_encode(7, OUT), X509_VALUE) && REFUSED(x509_crl_reason_encode(11, OUT), X509_VALUE));
+    WANT(REFUSED(x509_crl_reason_encode(256, OUT), X509_VALUE));
+
+    WANT(WROTE(x509_invalidity_date_encode(1767323045, OUT), "\x18\x0f" "20260102030405Z"));
+    WANT(x509_invalidity_date(room, written, &moment) == X509_OK && moment == 1767323045);
+    WANT(WROTE(x509_invalidity_date_encode(0, OUT), "\x18\x0f" "19700101000000Z"));
+    WANT(WROTE(x509_invalidity_date_encode(253402300799, OUT), "\x18\x0f" "99991231235959Z"));
+    WANT(x509_invalidity_date_encode(0, room, 16, &written) == X509_ROOM && written == 17);
+    WANT(REFUSED(x509_invalidity_date_encode(253402300800, OUT), X509_VALUE) && REFUSED(x509_invalidity_date_encode(UINT64_MAX, OUT), X509_VALUE));
+
+    x509_private_key_usage_period_view period = {1, 1767323045, 1, 1767323045};
+    WANT(WROTE(x509_private_key_usage_period_encode(&period, OUT), "\x30\x22\x80\x0f" "20260102030405Z\x81\x0f" "20260102030405Z"));
+    WANT(x509_private_key_usage_period_encode(&period, room, 35, &written) == X509_ROOM && written == 36);
+    WANT(WROTE(x509_private_key_usage_period_encode(&(x509_private_key_usage_period_view){1, 0, 0, 0}, OUT), "\x30\x11\x80\x0f" "19700101000000Z"));
+    WANT(WROTE(x509_private_key_usage_period_encode(&(x509_private_key_usage_period_view){0, 0, 1, 0}, OUT), "\x30\x11\x81\x0f" "19700101000000Z"));
+    WANT(x509_private_key_usage_period(room, written, &period) == X509_OK && period.has_not_before == 0 && period.has_not_after == 1 && period.not_after == 0);
+    const x509_private_key_usage_period_view bad[] = {{0, 0, 0, 0}, {1, 5, 1, 4}, {2, 0, 0, 0}, {0, 1, 1, 5}, {1, 253402300800, 0, 0}};
+    for (size_t at = 0; at < sizeof bad / sizeof bad[0]; at++)
+        WANT(REFUSED(x509_private_key_usage_period_encode(&bad[at], OUT), X509_VALUE));
+}
+
+/* General names, by hand (RFC 5280 4.2.1.6). */
+#define DNS_NAME "\x82\x01" "a"
+static void encoded_names(void)
+{
+    WANT(WROTE(x509_general_name_encode(X509_GENERAL_NAME_DNS, BYTES("a"), OUT), DNS_NAME));
+    WANT(WROTE(x509_general_name_encode(X509_GENERAL_NAME_EMAIL, BYTES("a@b"), OUT), "\x81\x03" "a@b"));
+    WANT(WROTE(x509_general_name_encode(X509_GENERAL_NAME_URI, BYTES("a:b"), OUT), "\x86\x03" "a:b"));
+    WANT(WROTE(x509_general_name_encode(X509_GENERAL_NAME_URI, nothing, 0, OUT), "\x86\x00"));
+    WANT(WROTE(x509_general_name_encode(X509_GENERAL_NAME_IP, BYTES("\x7f\x00\x00\x01"), OUT), "\x87\x04\x7f\x00\x00\x01"));
+    WANT(WROTE(x509_general_name_encode(X509_GENERAL_NAME_DIRECTORY, BYTES("\x30\x00"), OUT), "\xa4\x02\x30\x00"));
+    WANT(WROTE(x509_general_name_encode(X509_GENERAL_NAME_REGISTERED_ID, BYTES("\x2a\x03"), OUT), "\x88\x02\x2a\x03"));
+    WANT(WROTE(x509_general_name_encode(X509_GENERAL_NAME_EDI_PARTY, BYTES("\xa1\x03\x0c\x01" "a"), OUT), "\xa5\x05\xa1\x03\x0c\x01" "a"));
+    WANT(WROTE(x509_general_name_encode(X509_GENERAL_NAME_OTHER, BYTES("\x06\x02\x2a\x03\xa0\x02\x05\x00"), OUT), "\xa0\x08\x06\x02\x2a\x03\xa0\x02\x05\x00"));
+    WANT(x509_general_name_encode(X509_GENERAL_NAME_DNS, BYTES("a"), room, 2, &written) == X509_ROOM && written == 3);
+    const uint32_t unknown[] = {3, 9, 0x102, UINT32_MAX};
+    for (size_t at = 0; at < sizeof unknown / sizeof unknown[0]; at++)
+        WANT(REFUSED(x509_general_name_encode(unknown[at], BYTES("a"), OUT), X509_VALUE));
+    WANT(REFUSED(x509_general_name_encode(X509_GENERAL_NAME_DNS, BYTES("\xff"), OUT), X509_MALFORMED));
+    WANT(REFUSED(x509_general_name_encode(X509_GENERAL_NAME_DIRECTORY, BYTES("\x05\x00"), OUT), X509_MALFORMED));
+    WANT(REFUSED(x509_general_name_encode(X509_GENERAL_NAME_REGISTERED_ID, BYTES("\x80"), OUT), X509_MALFORMED));
+    WANT(REFUSED(x509_general_name_encode(X509_GENERAL_NAME_EDI_PARTY, BYTES("\x05\x00"), OUT), X509_MALFORMED));
+    WANT(REFUSED(x509_general_name_encode(X509_GENERAL_NAME_OTHER, nothing, 0, OUT), X509_MALFORMED));
+
+    WANT(WROTE(x509_other_name_encode(BYTES("\x2a\x03"), BYTES("\x05\x00"), OUT), "\xa0\x08\x06\x02\x2a\x03\xa0\x02\x05\x00"));
+    WANT(x509_other_name_encode(BYTES("\x2a\x03"), BYTES("\x05\x00"), room, 9, &written) == X509_ROOM && written == 10);
+    WANT(REFUSED(x509_other_name_encode(BYTES("\x80"), BYTES("\x05\x00"), OUT), X509_MALFORMED));
+    WANT(REFUSED(x509_other_name_encode(BYTES("\x2a\x03"), BYTES("\x05"), OUT), X509_MALFORMED));
+    WANT(REFUSED(x509_other_name_encode(BYTES("\x2a\x03"), nothing, 0, OUT), X509_MALFORMED));
+
+    x509_general_name found;
+    size_t at = 0;
+    WANT(WROTE(x509_general_names_encode(BYTES(DNS_NAME "\x88\x02\x2a\x03"), OUT), "\x30\x07" DNS_NAME "\x88\x02\x2a\x03"));
+    WANT(x509_general_names_next(room, written, &at, &found) == X509_OK && found.kind == X509_GENERAL_NAME_DNS && is_at(found.content, 4, 1));
+    WANT(x509_general_names_next(room, written, &at, &found) == X509_OK && found.kind == X509_GENERAL_NAME_REGISTERED_ID && is_at(found.content, 7, 2));
+    WANT(x509_general_names_encode(BYTES(DNS_NAME), room, 4, &written) == X509_ROOM && written == 5);
+    WANT(REFUSED(x509_general_names_encode(nothing, 0, OUT), X509_VALUE) && REFUSED(x509_general_names_encode(BYTES(DNS_NAME "\x82"), OUT), X509_MALFORMED));
+    WANT(REFUSED(x509_general_names_encode(BYTES("\x04\x00"), OUT), X509_MALFORMED));
+}
+
+/* What holds general names, by hand (RFC 5280 4.2.1.10, 4.2.1.13, 4.2.2.1, 5.2.5). */
+#define ACCESS "\x30\x07\x06\x02\x2a\x03" DNS_NAME
+#define SUBTREE "\x30\x03" DNS_NAME
+#define ATTRIBUTE "\x30\x08\x06\x03\x55\x04\x03\x0c\x01" "a"
+#define POINT "\x30\x07\xa0\x05\xa0\x03" DNS_NAME
+static void encoded_places(void)
+{
+    WANT(WROTE(x509_access_encode(BYTES("\x2a\x03"), BYTES(DNS_NAME), OUT), ACCESS));
+    WANT(x509_access_encode(BYTES("\x2a\x03"), BYTES(DNS_NAME), room, 8, &written) == X509_ROOM && written == 9);
+    WANT(REFUSED(x509_access_encode(BYTES("\x80"), BYTES(DNS_NAME), OUT), X509_MALFORMED));
+    WANT(REFUSED(x509_access_encode(BYTES("\x2a\x03"), BYTES("\x82\x01\xff"), OUT), X509_MALFORMED));
+    WANT(WROTE(x509_info_access_encode(BYTES(ACCESS), OUT), "\x30\x09" ACCESS));
+    WANT(REFUSED(x509_info_access_encode(nothing, 0, OUT), X509_VALUE) && REFUSED(x509_info_access_encode(BYTES(DNS_NAME), OUT), X509_MALFORMED));
+
+    WANT(WROTE(x509_subtree_encode(BYTES(DNS_NAME), OUT), SUBTREE) && REFUSED(x509_subtree_encode(nothing, 0, OUT), X509_MALFORMED));
+    WANT(x509_subtree_encode(BYTES(DNS_NAME), room, 4, &written) == X509_ROOM && written == 5);
+    WANT(WROTE(x509_name_constraints_encode(BYTES(SUBTREE SUBTREE), nothing, 0, OUT), "\x30\x0c\xa0\x0a" SUBTREE SUBTREE));
+    WANT(WROTE(x509_name_constraints_encode(nothing, 0, BYTES(SUBTREE), OUT), "\x30\x07\xa1\x05" SUBTREE));
+    WANT(WROTE(x509_name_constraints_encode(BYTES(SUBTREE), BYTES(SUBTREE), OUT), "\x30\x0e\xa0\x05" SUBTREE "\xa1\x05" SUBTREE));
+    WANT(x509_name_constraints_encode(BYTES(SUBTREE), nothing, 0, room, 8, &written) == X509_ROOM && written == 9);
+    WANT(REFUSED(x509_name_constraints_encode(nothing, 0, nothing, 0, OUT), X509_VALUE));
+    WANT(REFUSED(x509_name_constraints_encode(BYTES(DNS_NAME), nothing, 0, OUT), X509_MALFORMED));
+    WANT(REFUSED(x509_name_constraints_encode(nothing, 0, BYTES(DNS_NAME), OUT), X509_MALFORMED));
+
+    const uint32_t compromised = X509_REASONS_KEY_COMPROMISE;
+    WANT(WROTE(x509_distribution_point_encode(BYTES(DNS_NAME), nothing, 0, 0, 0, nothing, 0, OUT), POINT));
+    WANT(WROTE(x509_distribution_point_encode(nothing, 0, BYTES("\x31\x0a" ATTRIBUTE), 0, 0, nothing, 0, OUT), "\x30\x0e\xa0\x0c\xa1\x0a" ATTRIBUTE));
+    WANT(WROTE(x509_distribution_point_encode(nothing, 0, nothing, 0, 1, compromised, BYTES(DNS_NAME), OUT), "\x30\x09\x81\x02\x06\x40\xa2\x03" DNS_NAME));
+    WANT(WROTE(x509_distribution_point_encode(BYTES(DNS_NAME), nothing, 0, 1, X509_REASONS_AA_COMPROMISE, BYTES(DNS_NAME), OUT),
+               "\x30\x11\xa0\x05\xa0\x03" DNS_NAME "\x81\x03\x07\x00\x80\xa2\x03" DNS_NAME));
+    WANT(x509_distribution_point_encode(BYTES(DNS_NAME), nothing, 0, 0, 0, nothing, 0, room, 8, &written) == X509_ROOM && written == 9);
+    WANT(REFUSED(x509_distribution_point_encode(nothing, 0, nothing, 0, 1, compromised, nothing, 0, OUT), X509_VALUE));
+    WANT(REFUSED(x509_distribution_point_encode(BYTES(DNS_NAME), BYTES("\x31\x0a" ATTRIBUTE), 0, 0, nothing, 0, OUT), X509_VALUE));
+    const uint32_t unsaid[][2] = {{0, 2}, {2, 0}, {1, 0x200}, {1, 0x10001}};
+    for (size_t at = 0; at < sizeof unsaid / sizeof unsaid[0]; at++)
+        WANT(REFUSED(x509_distribution_point_encode(BYTES(DNS_NAME), nothing, 0, unsaid[at][0], unsaid[at][1], nothing, 0, OUT), X509_VALUE));
+    WANT(REFUSED(x509_distribution_point_encode(BYTES("\x82"), nothing, 0, 0, 0, nothing, 0, OUT), X509_MALFORMED));
+    WANT(REFUSED(x509_distribution_point_encode(nothing, 0, BYTES(ATTRIBUTE), 0, 0, nothing, 0, OUT), X509_MALFORMED));
+    WANT(REFUSED(x509_distribution_point_encode(BYTES(DNS_NAME), nothing, 0, 0, 0, BYTES("\x82"), OUT), X509_MALFORMED));
+    WANT(WROTE(x509_distribution_points_encode(BYTES(POINT POINT), OUT), "\x30\x12" POINT POINT));
+    WANT(REFUSED(x509_distribution_points_encode(nothing, 0, OUT), X509_VALUE) && REFUSED(x509_distribution_points_encode(BYTES(DNS_NAME), OUT), X509_MALFORMED));
+
+    const x509_issuing_distribution_point_view users = {.only_contains_user_certs = 1}, indirect = {.indirect_crl = 1},
+                                               some = {.only_contains_ca_certs = 1, .has_only_some_reasons = 1, .only_some_reasons = compromised},
+                                               attributes = {.only_contains_attribute_certs = 1}, none = {.indirect_crl = 0};
+    WANT(WROTE(x509_issuing_distribution_point_encode(&users, nothing, 0, nothing, 0, OUT), "\x30\x03\x81\x01\xff"));
+    WANT(WROTE(x509_issuing_distribution_point_encode(&some, nothing, 0, nothing, 0, OUT), "\x30\x07\x82\x01\xff\x83\x02\x06\x40"));
+    WANT(WROTE(x509_issuing_distribution_point_encode(&attributes, nothing, 0, nothing, 0, OUT), "\x30\x03\x85\x01\xff"));
+    WANT(WROTE(x509_issuing_distribution_point_encode(&indirect, BYTES(DNS_NAME), nothing, 0, OUT), "\x30\x0a\xa0\x05\xa0\x03" DNS_NAME "\x84\x01\xff"));
+    WANT(WROTE(x509_issuing_distribution_point_encode(&none, nothing, 0, BYTES("\x31\x0a" ATTRIBUTE), OUT), "\x30\x0e\xa0\x0c\xa1\x0a" ATTRIBUTE));
+    WANT(x509_issuing_distribution_point_encode(&users, nothing, 0, nothing, 0, room, 4, &written) == X509_ROOM && written == 5);
+    const x509_issuing_distribution_point_view bad[] = {{.indirect_crl = 0},
+                                                        {.only_contains_user_certs = 1, .only_contains_ca_certs = 1},
+                                                        {.only_contains_user_certs = 1, .only_contains_attribute_certs = 1},
+                                                        {.only_contains_ca_certs = 1, .only_contains_attribute_certs = 1},
+                                                        {.indirect_crl = 2},
+                                                        {.only_contains_user_certs = 2},
+                                                        {.only_contains_ca_certs = 2},
+                                                        {.only_contains_attribute_certs = 2},
+                                                        {.has_only_some_reasons = 1, .only_some_reasons = 0x200},
+                                                        {.indirect_crl = 1, .only_some_reasons = 2}};
+    for (size_t at = 0; at < sizeof bad / sizeof bad[0]; at++)
+        WANT(REFUSED(x509_issuing_distribution_point_encode(&bad[at], nothing, 0, nothing, 0, OUT), X509_VALUE));
+    WANT(REFUSED(x509_issuing_distribution_point_encode(&users, BYTES(DNS_NAME), BYTES("\x31\x0a" ATTRIBUTE), OUT), X509_VALUE));
+    WANT(REFUSED(x509_issuing_distribution_point_encode(&users, BYTES("\x82"), nothing, 0, OUT), X509_MALFORMED));
+}
+#undef POINT
+#undef ATTRIBUTE
+#undef SUBTREE
+#undef ACCESS
+#undef DNS_NAME
+#undef REFUSED
+#undef OUT
 
 static void key_identifiers(void)
 {
@@ -633,6 +859,13 @@ static void points(void)
     WANT(x509_issuing_distribution_point(BYTES("\x30\x03\x81\x01\x00"), &view) == X509_MALFORMED && view.indirect_crl == 1);
     WANT(x509_issuing_distribution_point(BYTES("\x30\x06\x82\x01\xff\x85\x01\xff"), &view) == X509_OK);
     WANT(view.only_contains_ca_certs == 1 && view.only_contains_attribute_certs == 1 && view.only_contains_user_certs == 0 && view.has_only_some_reasons == 0);
+    /* each flag alone */
+    for (uint32_t at = 0; at < 4; at++) {
+        const uint8_t alone[] = {0x30, 0x03, (const uint8_t[]){0x81, 0x82, 0x84, 0x85}[at], 0x01, 0xff};
+        WANT(x509_issuing_distribution_point(alone, sizeof alone, &view) == X509_OK);
+        WANT(view.only_contains_user_certs == (at == 0) && view.only_contains_ca_certs == (at == 1) && view.indirect_crl == (at == 2));
+        WANT(view.only_contains_attribute_certs == (at == 3));
+    }
 
     x509_span number = {7, 7};
     WANT(x509_crl_number(BYTES("\x02\x01\xff"), &number) == X509_MALFORMED && is_at(number, 7, 7));
@@ -660,6 +893,7 @@ static void subtrees(void)
     WANT(x509_subtrees_under_next(1, (const uint8_t *)value + 9, 13, &at, &found) == X509_OK && at == 13);
     WANT(is_at(found.base.content, 6, 1) && found.minimum == 2 && found.has_maximum == 1 && found.maximum == 3);
     WANT(x509_subtrees_under_next(31, (const uint8_t *)value + 9, 13, &at, &found) == X509_MALFORMED && at == 13 && found.minimum == 2);
+    WANT(x509_name_constraints(BYTES("\x30\x07\xa1\x05\x30\x03\x82\x01" "a"), &view) == X509_OK && is_at(view.permitted, 0, 0) && is_at(view.excluded, 2, 7));
     WANT(x509_name_constraints(BYTES("\x30\x00"), &view) == X509_OK && is_at(view.permitted, 0, 0) && is_at(view.excluded, 0, 0));
 }
 
@@ -698,12 +932,23 @@ static void texts(void)
 
     WANT(WROTE(x509_oid_from_text(BYTES("2.5.29.15"), room, 3, &written), X509_OID_KEY_USAGE));
     WANT(x509_oid_from_text(BYTES("2.5.29.15"), room, 2, &written) == X509_ROOM && written == 3);
+    static const struct { const char *text, *oid; size_t len; } oids[] = {
+        {"2.5.4.6", "\x55\x04\x06", 3}, {"2.999.3", "\x88\x37\x03", 3}, {"0.39", "\x27", 1}, {"1.2.4294967295", "\x2a\x8f\xff\xff\xff\x7f", 6},
+        {"1.3.6.1.4.1.11129.2.4.2", "\x2b\x06\x01\x04\x01\xd6\x79\x02\x04\x02", 10}};
+    for (size_t at = 0; at < sizeof oids / sizeof oids[0]; at++) {
+        WANT(wrote(x509_oid_from_text((const uint8_t *)oids[at].text, strlen(oids[at].text), room, sizeof room, &written), oids[at].oid, oids[at].len));
+        WANT(x509_oid_text((const uint8_t *)oids[at].oid, oids[at].len, room, sizeof room, &written) == X509_OK && is_written(oids[at].text));
+    }
+    static const char *const no_oids[] = {"1.40", "3.1", "1.02", "2.", "2..5", "2", "+2.5", "2.5 "};
+    for (size_t at = 0; at < sizeof no_oids / sizeof no_oids[0]; at++)
+        WANT(x509_oid_from_text((const uint8_t *)no_oids[at], strlen(no_oids[at]), room, sizeof room, &written) == X509_FAILED);
     written = 77;
     WANT(x509_oid_from_text(BYTES("2.5.29."), room, sizeof room, &written) == X509_FAILED && written == 77);
 
     WANT(x509_time_text(0, room, 19, &written) == X509_ROOM && written == 20);
     WANT(x509_time_text(0, room, 20, &written) == X509_OK && is_written("1970-01-01T00:00:00Z"));
     WANT(x509_time_text(1767323045, room, sizeof room, &written) == X509_OK && is_written("2026-01-02T03:04:05Z"));
+    WANT(x509_time_text(1009886460, room, sizeof room, &written) == X509_OK && is_written("2002-01-01T12:01:00Z"));
     WANT(x509_time_text(253402300799, room, sizeof room, &written) == X509_OK && is_written("9999-12-31T23:59:59Z"));
     written = 77;
     WANT(x509_time_text(253402300800, room, sizeof room, &written) == X509_VALUE && written == 77);
@@ -742,6 +987,10 @@ int main(int argc, char **argv)
     first_attributes();
     matching_names();
     extensions();
+    encoded();
+    encoded_moments();
+    encoded_names();
+    encoded_places();
     key_identifiers();
     accesses();
     policies();

@@ -159,6 +159,27 @@ static void no_pointers(void)
     written = 77;
     WANT(x509_assemble(NULL, 0, NULL, 0, NULL, 0, NULL, 0, &written) == X509_MALFORMED && written == 77);
     WANT(x509_extension_encode(NULL, 0, 0, NULL, 0, NULL, 0, &written) == X509_MALFORMED && written == 77);
+    WANT(x509_extended_key_usage_encode(NULL, 0, NULL, 0, NULL, 0, &written) == X509_VALUE && written == 77);
+    WANT(x509_crl_number_encode(NULL, 0, NULL, 0, &written) == X509_VALUE && written == 77);
+    WANT(x509_subject_key_identifier_encode(NULL, 0, NULL, 0, &written) == X509_ROOM && written == 2);
+    WANT(x509_authority_key_identifier_encode(1, NULL, 0, NULL, 0, NULL, 0, NULL, 0, &written) == X509_ROOM && written == 4);
+    WANT(x509_inhibit_any_policy_encode(0, NULL, 0, &written) == X509_ROOM && written == 3);
+    WANT(x509_key_usage_encode(1, NULL, 0, &written) == X509_ROOM && written == 4);
+    WANT(x509_crl_reason_encode(0, NULL, 0, &written) == X509_ROOM && written == 3);
+    WANT(x509_invalidity_date_encode(0, NULL, 0, &written) == X509_ROOM && written == 17);
+    WANT(x509_private_key_usage_period_encode(&(x509_private_key_usage_period_view){1, 0, 0, 0}, NULL, 0, &written) == X509_ROOM && written == 19);
+    WANT(x509_general_name_encode(2, NULL, 0, NULL, 0, &written) == X509_ROOM && written == 2);
+    WANT(x509_issuing_distribution_point_encode(&(x509_issuing_distribution_point_view){.indirect_crl = 1}, NULL, 0, NULL, 0, NULL, 0, &written) == X509_ROOM
+         && written == 5);
+    written = 77;
+    WANT(x509_other_name_encode(NULL, 0, NULL, 0, NULL, 0, &written) == X509_MALFORMED && x509_access_encode(NULL, 0, NULL, 0, NULL, 0, &written) == X509_MALFORMED);
+    WANT(x509_general_names_encode(NULL, 0, NULL, 0, &written) == X509_VALUE && x509_info_access_encode(NULL, 0, NULL, 0, &written) == X509_VALUE);
+    WANT(x509_distribution_points_encode(NULL, 0, NULL, 0, &written) == X509_VALUE && x509_subtree_encode(NULL, 0, NULL, 0, &written) == X509_MALFORMED);
+    WANT(x509_name_constraints_encode(NULL, 0, NULL, 0, NULL, 0, &written) == X509_VALUE && written == 77);
+    WANT(x509_distribution_point_encode(NULL, 0, NULL, 0, 0, 0, NULL, 0, NULL, 0, &written) == X509_VALUE && written == 77);
+    WANT(x509_basic_constraints_encode(&(x509_basic_constraints_view){0, 0, 0}, NULL, 0, &written) == X509_ROOM && written == 2);
+    WANT(x509_policy_constraints_encode(&(x509_policy_constraints_view){1, 0, 0, 0}, NULL, 0, &written) == X509_ROOM && written == 5);
+    written = 77;
     WANT(x509_crl_entry_encode(NULL, 0, MOMENT, NULL, 0, NULL, 0, &written) == X509_MALFORMED && written == 77);
     WANT(x509_attribute_encode(NULL, 0, 0, NULL, 0, 1, NULL, 0, &written) == X509_MALFORMED && written == 77);
     WANT(x509_relative_name_encode(NULL, 0, NULL, 0, &written) == X509_VALUE && written == 77);
@@ -260,6 +281,7 @@ static void refused_values(const uint8_t *bytes, size_t len, x509_status status)
     WANT(x509_name_find(bytes, len, OID, 3, &attribute) == status);
     WANT(x509_name_find(bytes, len, NULL, 0, &attribute) == status);
     WANT(x509_names_match(bytes, len, bytes, len, &number) == status);
+    WANT(x509_names_equal(bytes, len, bytes, len, &number) == status);
     WANT(x509_attribute_value_next(bytes, len, &at, &element) == status);
     WANT(x509_key_view(bytes, len, &key) == status);
     WANT(x509_algorithm_view(bytes, len, &algorithm) == status);
@@ -384,6 +406,11 @@ static void overlong_parts(uint8_t *bytes, size_t len)
 {
     written = 77;
     WANT(x509_extension_encode(OID, 3, 0, bytes, len, OUT) == X509_OVERLENGTH);
+    WANT(x509_subject_key_identifier_encode(bytes, len, OUT) == X509_OVERLENGTH);
+    WANT(x509_authority_key_identifier_encode(1, bytes, len, NULL, 0, NULL, 0, OUT) == X509_OVERLENGTH);
+    WANT(x509_general_name_encode(7, bytes, len, OUT) == X509_OVERLENGTH && x509_other_name_encode(OID, 3, bytes, len, OUT) == X509_OVERLENGTH);
+    WANT(x509_access_encode(OID, 3, bytes, len, OUT) == X509_OVERLENGTH && x509_subtree_encode(bytes, len, OUT) == X509_OVERLENGTH);
+    WANT(x509_distribution_point_encode(NULL, 0, bytes, len, 0, 0, NULL, 0, OUT) == X509_OVERLENGTH);
     WANT(x509_crl_entry_encode(bytes, len, MOMENT, NULL, 0, OUT) == X509_OVERLENGTH);
     WANT(x509_attribute_encode(BYTES("\x55\x04\x03"), 0x0c, bytes, len, 0, OUT) == X509_OVERLENGTH);
     WANT(x509_build_request(bytes, len, BYTES(KEY), NULL, 0, NULL, 0, OUT) == X509_OVERLENGTH);

@@ -44,6 +44,10 @@ def row(call, number, known, numbers):
             rest.pop(0)
             words += [f"(const void *)a->in[{len(inputs)}].bytes", f"a->in[{len(inputs)}].len"]
             inputs.append(it.name)
+        elif it.is_const and it.kind == "size_t" and behind is not None and behind.name == "count" and inputs[-1] != "path":
+            # one piece, which is the whole
+            rest.pop(0)
+            words += [f"&a->in[{len(inputs) - 1}].len", "1"]
         elif it.is_const and it.kind == "size_t" and behind is not None and behind.name == "count":
             rest.pop(0)
             words += ["a->lens", "a->count"]
@@ -91,6 +95,8 @@ def row(call, number, known, numbers):
             # what a walk carries on from step to step
             words.append("a->issuer")
             flags.add("CARRIES")
+        elif it.is_const and it.kind in known and it.name == "view":
+            words.append("(const void *)a->view")
         elif it.is_pointer and not it.is_const and output is None:
             words.append("a->found")
             output = it.kind

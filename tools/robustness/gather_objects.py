@@ -7,8 +7,14 @@ and objects inside of other bytes, as in PKCS #7, in keystores and in what was c
 
 It reads no DER but the length in front of an object inside of other bytes, where the object has to end. Whether something is an object at all, openssl
 and x509_show say. It writes each into FOLDER as DIGEST.der, by its SHA-256, and their list as `index.tsv`: the digest, the source that was named, the file
-in it, and how it stood there. Packages for it come by `apt-get download NAME` and `apt-get source --download-only --tar-only NAME`; docs/PERFORMANCE.md says
-which were taken.
+in it, and how it stood there.
+
+Packages for it come by `apt-get download NAME` and `apt-get source --download-only --tar-only NAME`. What docs/PERFORMANCE.md tells of was gathered, with
+`--without /fuzz`, from 44 packages of Debian 12: ca-certificates, testssl.sh (stores of Apple, Java, Microsoft and Mozilla), python3-cryptography-vectors with
+NIST's PKITS, and sources of apache2, botan, bouncycastle, cfssl, certificate-transparency, curl, edk2, erlang, fwupd, gnupg2, gnutls28, golang-1.19,
+go-rootcerts, krb5, lasso (metadata of SAML), libtasn1, mbedtls, nodejs, nss, openjdk-17, opensc, openssl, oscrypto, php8.2, poco, postgresql-15, python3.11,
+python3-certifi, python-cryptography, python3-twisted, qtbase, ruby3.1, rustls, simplesamlphp, smallstep's certificates and cli, strongswan, webpki, wolfssl
+and xmlsec1. Then: compare_gathered.py crates/x509_show/out/x509_show FOLDER --linter crates/x509_linter/out/x509_linter --alone FILE
 """
 import argparse
 import base64

@@ -73,7 +73,7 @@ static void wrong(const char *what, long number)
 
 /* ---- each call */
 
-enum { CALLS = 103 };
+enum { CALLS = 117 };
 
 static uint8_t certificate[65536], list[65536], request[65536], room[65536], signed_list[3 * 65536], searched[65536 + 10];
 static size_t certificate_len, list_len, request_len;
@@ -419,6 +419,35 @@ static x509_status call(int number)
         return x509_crl_index_find(BYTES(LISTED), index_of_one, 1, BYTES("\x02\x08\x12\x34\x56\x78\x90\xab\xcd\xef"), &filled.entry);
     case 101:
         return x509_crl_index(BYTES(LISTED), index_of_one, 1, &filled.count);
+    case 102:
+        return x509_extended_key_usage_encode(BYTES("\x2a\x03\x2a\x03\x04"), (const size_t[]){2, 3}, 2, room, sizeof room, &filled.count);
+    case 103:
+        return x509_subject_key_identifier_encode(BYTES(THIRTY), room, sizeof room, &filled.count);
+    case 104:
+        return x509_crl_number_encode(BYTES("\x01\x00"), room, sizeof room, &filled.count);
+    case 105:
+        return x509_authority_key_identifier_encode(1, BYTES(THIRTY), BYTES("\x30\x20\x82\x1e" THIRTY), BYTES("\x02\x01\x05"), room, sizeof room, &filled.count);
+    case 106:
+        return x509_general_name_encode(X509_GENERAL_NAME_DNS, BYTES(THIRTY), room, sizeof room, &filled.count);
+    case 107:
+        return x509_other_name_encode(BYTES("\x2a\x03"), BYTES("\x04\x1e" THIRTY), room, sizeof room, &filled.count);
+    case 108:
+        return x509_general_names_encode(BYTES("\x82\x1e" THIRTY), room, sizeof room, &filled.count);
+    case 109:
+        return x509_access_encode(BYTES("\x2a\x03"), BYTES("\x82\x1e" THIRTY), room, sizeof room, &filled.count);
+    case 110:
+        return x509_info_access_encode(BYTES("\x30\x24\x06\x02\x2a\x03\x82\x1e" THIRTY), room, sizeof room, &filled.count);
+    case 111:
+        return x509_subtree_encode(BYTES("\x82\x1e" THIRTY), room, sizeof room, &filled.count);
+    case 112:
+        return x509_name_constraints_encode(BYTES("\x30\x20\x82\x1e" THIRTY), BYTES("\x30\x20\x82\x1e" THIRTY), room, sizeof room, &filled.count);
+    case 113:
+        return x509_distribution_point_encode(BYTES("\x82\x1e" THIRTY), NULL, 0, 0, 0, BYTES("\x82\x1e" THIRTY), room, sizeof room, &filled.count);
+    case 114:
+        return x509_distribution_points_encode(BYTES("\x30\x24\xa0\x22\xa0\x20\x82\x1e" THIRTY), room, sizeof room, &filled.count);
+    case 115:
+        return x509_issuing_distribution_point_encode(&(x509_issuing_distribution_point_view){.indirect_crl = 1}, BYTES("\x82\x1e" THIRTY), NULL, 0, room,
+                                                      sizeof room, &filled.count);
     default:
         /* in the first second of the validity */
         return x509_path_check(certificate, certificate_len, certificate, certificate_len, &certificate_len, 1, 1767323045, &filled.fault);
@@ -446,8 +475,8 @@ static int holds(int number, long from, long to)
 /* whether the call takes no memory: it answers what it is for, whatever is refused */
 static int takes_none(int number)
 {
-    return number == 0 || (number >= 2 && number <= 6) || number == 10 || number == 11 || number == 19 || number == 21 || number == 73 || number == 81
-           || number == 101;
+    return number == 0 || (number >= 2 && number <= 6) || number == 10 || number == 11 || number == 19 || number == 21 || number == 73 || number == 81 ||
+           number == 101 || number == 104;
 }
 
 static void refuse_call(int number)

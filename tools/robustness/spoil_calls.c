@@ -37,6 +37,7 @@ typedef struct {
 typedef struct {
     octets in[MOST_INPUTS];
     uint64_t number[MOST_NUMBERS];
+    uint32_t view[24]; /* what is said by a struct: its numbers one after the other */
     const size_t *lens;
     const x509_signed_crl *crls;
     size_t count;
@@ -209,6 +210,18 @@ static const source SOURCES[] = {
     {"x509_name_find", "oid", "found:x509_relative_name_next"},
     {"x509_names_match", "a", "x509_name_text"},
     {"x509_names_match", "b", "x509_name_text"},
+    {"x509_names_equal", "a", "x509_name_text"},
+    {"x509_names_equal", "b", "x509_name_text"},
+    {"x509_authority_key_identifier_encode", "key_identifier", "x509_oid_text"},
+    {"x509_authority_key_identifier_encode", "issuer", "x509_general_names_next"},
+    {NULL, "type_id", "x509_oid_text"},
+    {NULL, "method", "x509_oid_text"},
+    {NULL, "location", "found:x509_general_names_next"},
+    {NULL, "permitted", "kind:GeneralSubtree"},
+    {NULL, "excluded", "kind:GeneralSubtree"},
+    {NULL, "full_name", "found:x509_general_names_next"},
+    {NULL, "relative_name", "x509_relative_name_next"},
+    {NULL, "crl_issuer", "found:x509_general_names_next"},
     {"x509_certificate_matches_name", "in", "x509_certificate_check"},
     {"x509_certificate_matches_name", "name", "x509_server_name_view"},
     {"x509_certificate_matches_email", "in", "x509_certificate_check"},
@@ -578,6 +591,12 @@ static uint64_t any_number(asker *by, const char *name, octets first)
         return first.len > 0 ? first.bytes[0] & 0x1f : 0;
     if (strcmp(name, "string_type") == 0)
         return string_types[below(&by->state, sizeof string_types)];
+    if (strcmp(name, "kind") == 0)
+        return below(&by->state, 9);
+    if (strcmp(name, "uses") == 0 || strcmp(name, "reasons") == 0)
+        return below(&by->state, 512);
+    if (strcmp(name, "reason") == 0)
+        return below(&by->state, 12);
     if (strcmp(name, "status") == 0)
         return below(&by->state, 12) - 2;
     if (strcmp(name, "index") == 0 || strcmp(name, "size") == 0 || strcmp(name, "old_size") == 0 || strcmp(name, "new_size") == 0)
@@ -796,6 +815,10 @@ static void take_inputs(asker *by, arguments *with)
         if (it != NULL && strcmp(of, "kind:row") == 0)
             copy_in(by, 0, (const uint8_t *)it->kind, strlen(it->kind));
     }
+    /* a point has one kind of name */
+    const int relative = input_of(now, "relative_name");
+    if (relative >= 0)
+        by->kept[below(&by->state, 4) == 0 ? input_of(now, "full_name") : relative].len = 0;
     if (now->flags & HAS_CRLS)
         take_crls(by, with);
     if (now->flags & FINDS)
@@ -839,6 +862,8 @@ static void ask_spoilt(asker *by, int number)
     }
     for (int at = 0; at < by->now->number_count; at++)
         with.number[at] = any_number(by, by->now->numbers[at], by->kept[0]);
+    for (size_t at = 0; at < sizeof with.view / sizeof *with.view; at++)
+        with.view[at] = (uint32_t)below(&by->state, below(&by->state, 8) == 0 ? UINT32_MAX : 2);
     x509_certificate view;
     if ((by->now->flags & HAS_LENS) && below(&by->state, 8) != 0 && x509_certificate_view(by->copies[0], by->kept[0].len, &view) == X509_OK)
         with.number[0] = view.not_before;
@@ -1110,10 +1135,11 @@ static asker *new_asker(void)
     return made;
 }
 
-/* Whether a call accepts any octets: each has a hash. */
+/* Whether a call accepts any octets, or any number: each has a hash, and may be those of the identifier of a key, and a number of certificates. */
 static int accepts_any(const char *name)
 {
-    return strcmp(name, "x509_merkle_leaf_hash") == 0;
+    return strcmp(name, "x509_merkle_leaf_hash") == 0 || strcmp(name, "x509_subject_key_identifier_encode") == 0
+           || strcmp(name, "x509_inhibit_any_policy_encode") == 0;
 }
 
 /* Each call has accepted some inputs and refused some, where it was asked about enough of them. */

@@ -8,6 +8,7 @@ from __future__ import annotations
 import datetime
 import pathlib
 import unittest
+import warnings
 from typing import Callable
 
 import x509_cert as x509
@@ -138,6 +139,14 @@ class Rare(unittest.TestCase):
         for bad in ("", "a003130161", "a1020500", "a1031301ff"):
             with self.subTest(bad), self.assertRaises(x509.X509Error):
                 x509.EDIPartyName(bytes.fromhex(bad)).party_name
+
+    def test_a_backend_is_warned_of(self) -> None:
+        with self.assertWarnsRegex(UserWarning, "a backend is ignored") as warned:
+            self.assertEqual(x509.load_der_x509_certificate(CERTIFICATE, "openssl").public_bytes(), CERTIFICATE)
+        self.assertEqual(warned.filename, __file__)
+        with warnings.catch_warnings():
+            warnings.simplefilter("error")
+            x509.load_der_x509_certificate(CERTIFICATE, backend=None)
 
 
 if __name__ == "__main__":

@@ -28,7 +28,7 @@ SECOND = datetime.timedelta(seconds=1)
 ED25519 = bytes.fromhex("300506032b6570")
 KEY, OTHER_KEY = (bytes.fromhex("302a300506032b6570032100") + bytes([octet]) * 32 for octet in (0, 1))
 
-MOMENT, SIGNATURE, ISSUER, CRITICAL, NOT_CA, EXTENSION, NAMES, CONSTRAINTS = 4, 5, 3, 7, 8, 11, 12, 13
+MOMENT, SIGNATURE, ISSUER, CRITICAL, NOT_CA, PATH_LEN, EXTENSION, NAMES, CONSTRAINTS = 4, 5, 3, 7, 8, 10, 11, 12, 13
 REPEATED_POLICY, POLICY, POLICY_MAPPING, PURPOSE, USAGE, VERSION = 14, 15, 16, 17, 18, 19
 
 
@@ -76,6 +76,27 @@ def element(tag: int, *parts: bytes) -> bytes:
     content = b"".join(parts)
     octets = b"" if len(content) < 128 else len(content).to_bytes(1 if len(content) < 256 else 2, "big")
     return bytes([tag, 0x80 | len(octets) if octets else len(content)]) + octets + content
+
+
+def dns(text: str) -> bytes:
+    return element(0x82, text.encode())
+
+
+def email(text: str) -> bytes:
+    return element(0x81, text.encode())
+
+
+def uri(text: str) -> bytes:
+    return element(0x86, text.encode())
+
+
+# the last arcs of attributes below 2.5.4 (X.520)
+COMMON_NAME, ORGANIZATION = 3, 10
+
+
+def directory(arc: int, tag: int, value: bytes) -> bytes:
+    """A directoryName of one attribute, whose value has that tag and these octets."""
+    return element(0xA4, element(0x30, element(0x31, element(0x30, element(0x06, bytes([0x55, 4, arc])), element(tag, value)))))
 
 
 def description(certificate: ours.Certificate | None = None, policies: ours.CertificatePolicies | None = None, flags: bytes = b"") -> ours.TrustAnchor:
@@ -139,6 +160,97 @@ class Validation(unittest.TestCase):
         other = made("CN=Root", "O=CA,C=DE", OTHER_KEY, CA, network)
         self.assertEqual(len(ours.validate_path(ROOT, [other, bad], NOW, accepts).certificates), 2)
 
+    def test_names_under_constraints(self) -> None:
+        """RFC 5280 4.2.1.10, by hand: a subtree and a name, whether that may stand in a certificate where the subtree is permitted, and where it is excluded;
+        None where it isn't asked."""
+        host, foo, domain = dns("host.example.com"), email("foo@example.com"), dns("example.com")
+        evil = directory(ORGANIZATION, 0x0C, b"Evil")
+        teletex = directory(ORGANIZATION, 0x14, b"M\xfcller")
+        rows: list[tuple[bytes, bytes, bool | None, bool | None]] = [
+            # a DNS name is within a subtree where labels stand in front of it, a host of a URI where the subtree has a dot in front
+            (host, dns("www.host.example.com"), True, None),
+            (host, dns("host1.example.com"), False, None),
+            (uri(".example.com"), uri("http://my.host.example.com/"), True, None),
+            (uri(".example.com"), uri("http://example.com/"), False, None),
+            # a wildcard is excluded where a host that it stands for is, also where the base is one label in front of what follows it; under permission it is a
+            # label as any other
+            (host, dns("*.example.com"), False, False),
+            (host, dns("*.EXAMPLE.com"), None, False),
+            (host, dns("*.host.example.com"), None, False),
+            (host, dns("*.example.org"), None, True),
+            (host, dns("*.b.example.com"), None, True),
+            (host, dns("*.com"), None, True),
+            (host, dns("example.com"), None, True),
+            (dns(".example.com"), dns("*.com"), None, True),
+            (domain, dns("*.example.com"), True, None),
+            # a quoted local part says the same as without quotes (RFC 5321 4.1.2); one that is neither can't be compared
+            (foo, email('"\\f\\o\\o"@example.com'), True, False),
+            (foo, email('"foo"@EXAMPLE.com'), None, False),
+            (email('"foo"@example.com'), foo, None, False),
+            (foo, email("Foo@example.com"), None, True),
+            (foo, email('"f\\"o"@example.com'), None, True),
+            (foo, email('f"o"o@example.org'), None, False),
+            (foo, email("\\f\\o\\o@example.org"), None, False),
+            # where URIs are constrained, one without a fully qualified domain name isn't allowed
+            (uri("example.com"), uri("http://localhost"), None, False),
+            (uri("localhost"), uri("http://localhost"), False, None),
+            (uri(""), uri("http://localhost"), False, None),
+            (uri(""), uri("urn:isbn:1234"), False, None),
+            (uri(""), uri("http://a.example"), True, None),
+            (domain, uri("http://localhost"), None, True),
+            # what is excluded is excluded in whatever string, and what can't be compared is where its type is excluded at that place
+            (evil, directory(ORGANIZATION, 0x1C, "EVIL".encode("utf-32-be")), None, False),
+            (evil, directory(ORGANIZATION, 0x1E, "Evil".encode("utf-16-be")), None, False),
+            (evil, directory(ORGANIZATION, 0x14, b"EVIL"), None, False),
+            (evil, directory(ORGANIZATION, 0x14, b"\xc9vil"), None, False),
+            (evil, directory(ORGANIZATION, 0x1C, b"\0\0\xd8\0"), None, False),
+            (evil, directory(ORGANIZATION, 0x04, b"Evil"), None, False),
+            (evil, directory(COMMON_NAME, 0x14, b"\xc9vil"), None, True),
+            (evil, directory(ORGANIZATION, 0x14, b"Good"), None, True),
+            (evil, directory(ORGANIZATION, 0x1C, "E".encode("utf-32-be")), None, True),
+            (teletex, teletex, True, False),
+            (element(0xA4, b"\x30\x00"), teletex, True, None),
+            # where an empty subtree is permitted a name that can't be compared is allowed; where a subtree is excluded it isn't
+            (dns(""), dns("a..b"), True, None),
+            (dns("a"), dns("a..b"), False, None),
+            (email(""), email("root"), True, None),
+            (email("a"), email("root"), False, None),
+            (domain, dns("example.com."), None, False),
+            (element(0x88, b"\x2a"), element(0x88, b"\x2b"), None, False),
+            (element(0x88, b"\x2a"), element(0x88, b"\x2a"), False, None),
+            # an odd base counts where a name of its form is asked
+            (element(0x87, b"\0"), element(0x87, b"\1\2\3\4"), None, False),
+            (element(0x87, b"\0"), dns("a.example"), None, True),
+        ]
+        for base, found, permitted, excluded in rows:
+            for tag, wanted in ((0xA0, permitted), (0xA1, excluded)):
+                if wanted is not None:
+                    with self.subTest(base=base, name=found, tag=tag):
+                        self.assertEqual(self.is_allowed(element(0x30, element(tag, element(0x30, base))), found), wanted)
+        # a minimum counts where a name of its form is asked; and both lists at once
+        minimum = element(0x30, element(0xA0, element(0x30, dns("a.example"), b"\x80\x01\x01")))
+        both = element(0x30, element(0xA0, element(0x30, host)), element(0xA1, element(0x30, dns("www.host.example.com"))))
+        for constraints, found, wanted in (
+            (minimum, dns("a.example"), False),
+            (minimum, email("root@a.example"), True),
+            (both, host, True),
+            (both, dns("host1.example.com"), False),
+            (both, dns("www.host.example.com"), False),
+            (both, email("root@example.com"), True),
+        ):
+            with self.subTest(constraints=constraints, name=found):
+                self.assertEqual(self.is_allowed(constraints, found), wanted)
+
+    def is_allowed(self, constraints: bytes, found: bytes) -> bool:
+        """Whether a certificate with an empty subject may have that alternative name alone under these constraints."""
+        names = ours.UnrecognizedExtension(ours.ExtensionOID.SUBJECT_ALTERNATIVE_NAME, element(0x30, found))
+        try:
+            ours.validate_path(ROOT, [made("CN=Root", "", KEY, names)], NOW, accepts, name_constraints=constraints)
+        except ours.PathFault as fault:
+            self.assertEqual((fault.place, fault.reason), (0, NAMES))
+            return False
+        return True
+
     def test_common_names(self) -> None:
         alternative = ours.SubjectAlternativeName
         network = ours.IPAddress(ipaddress.ip_network("192.0.2.0/24"))
@@ -188,21 +300,25 @@ class Validation(unittest.TestCase):
         self.assertEqual(self.fault(ROOT, [made("CN=Root", "CN=A", KEY), server("a")], NOW, accepts), (0, NOT_CA))
         self.assertEqual(self.fault(ROOT, [b"\x30\x00"], NOW, accepts), (0, 1))
         # a list without a subtree, and a minimum of 1 of directory names (RFC 5280 4.2.1.10), by hand
-        unusable, minimum = bytes.fromhex("3002a000"), bytes.fromhex("300ba0093007a4023000800101")
-        for data, fault in ((unusable, (0, CONSTRAINTS)), (minimum, (1, NAMES))):
+        unusable, excluded, minimum = (bytes.fromhex(it) for it in ("3002a000", "3002a100", "300ba0093007a4023000800101"))
+        for data, fault in ((unusable, (0, CONSTRAINTS)), (excluded, (0, CONSTRAINTS)), (minimum, (1, NAMES))):
             constraints = ours.UnrecognizedExtension(ours.ExtensionOID.NAME_CONSTRAINTS, data)
             authority = made("CN=Root", "O=CA,C=DE", OTHER_KEY, CA, constraints)
             with self.subTest(data):
                 self.assertEqual(self.fault(ROOT, [authority, server("a")], NOW, accepts), fault)
-        for data in (unusable, b"\x30\x01"):
+        for data in (unusable, excluded, b"\x30\x01"):
             with self.subTest(data), self.assertRaises(ours.X509Error):
                 ours.validate_path(ROOT, [AUTHORITY, server("a")], NOW, accepts, name_constraints=data)
 
     def test_purposes(self) -> None:
         own = [ours.ObjectIdentifier(it) for it in ("1.2.3.4", "1.2.3.5")]
         leaf, other, both = for_purposes(CODE), for_purposes(SERVERS), for_purposes(SERVERS, CODE, own[0])
-        # without a question a critical extension isn't processed
-        self.assertEqual(self.fault(ROOT, [AUTHORITY, leaf], NOW, accepts), (1, CRITICAL))
+        whatever = for_purposes(ours.ExtendedKeyUsageOID.ANY_EXTENDED_KEY_USAGE)
+        # without a question a critical extension isn't processed, and one that isn't critical isn't looked at
+        for it in (leaf, whatever):
+            self.assertEqual(self.fault(ROOT, [AUTHORITY, it], NOW, accepts), (1, CRITICAL))
+        plain = ours.UnrecognizedExtension(ours.ExtensionOID.EXTENDED_KEY_USAGE, ours.ExtendedKeyUsage([SERVERS]).data)
+        self.assertEqual(len(ours.validate_path(ROOT, [authority(plain), made("O=CA,C=DE", "CN=S", KEY, plain)], NOW, accepts).certificates), 2)
         refused: list[tuple[list[Any], dict[str, Any], int]] = [
             ([AUTHORITY, leaf], {"purposes": [SERVERS]}, 1),
             ([FOR_CODE, other], {"purposes": [SERVERS]}, 0),
@@ -219,6 +335,7 @@ class Validation(unittest.TestCase):
             ([FOR_CODE, both], {"purposes": [SERVERS, CODE]}),
             ([AUTHORITY, both], {"purposes": own[:1]}),
             ([AUTHORITY, server("a")], {"purposes": [SERVERS]}),
+            ([AUTHORITY, whatever], {"purposes": [SERVERS]}),
         ]
         for path, words in valid:
             with self.subTest(path=path, words=words):
@@ -231,6 +348,8 @@ class Validation(unittest.TestCase):
         leaf = made("CN=Root", "CN=S", OTHER_KEY, ours.KeyUsage(digital_signature=True))
         self.assertEqual(len(ours.validate_path(ROOT, [leaf], NOW, accepts, key_usage=ours.KeyUsage(digital_signature=True)).certificates), 1)
         self.assertEqual(self.fault(ROOT, [leaf], NOW, accepts, key_usage=ours.KeyUsage(key_agreement=True)), (0, USAGE))
+        # a certificate without a KeyUsage may be used for each
+        self.assertEqual(len(ours.validate_path(ROOT, [AUTHORITY, server("a")], NOW, accepts, key_usage=ours.KeyUsage(crl_sign=True)).certificates), 2)
 
     def test_versions(self) -> None:
         self.assertEqual(self.fault(ROOT, [OLD, server("a")], NOW, accepts), (0, NOT_CA))
@@ -238,11 +357,17 @@ class Validation(unittest.TestCase):
         for version in (b"", bytes.fromhex("a003020101")):
             extended = written(version, "O=CA,C=DE", bytes.fromhex("300f0603551d130101ff040530030101ff"))
             self.assertEqual(self.fault(ROOT, [extended, server("a")], NOW, accepts, allows_version_1=True), (0, VERSION))
+        # versions 2 and 3 are no authority's without the extension, and version 1 may stand last
+        for version in (bytes.fromhex("a003020101"), bytes.fromhex("a003020102")):
+            self.assertEqual(self.fault(ROOT, [written(version, "O=CA,C=DE"), server("a")], NOW, accepts, allows_version_1=True), (0, NOT_CA))
+        self.assertEqual(len(ours.validate_path(ROOT, [OLD], NOW, accepts).certificates), 1)
 
     def test_undecodable_before_unknown(self) -> None:
-        # a KeyUsage with zero bits at its end, and critical, by hand
-        leaf = written(bytes.fromhex("a003020102"), "CN=S", bytes.fromhex("300e0603551d0f0101ff040403020080"))
-        self.assertEqual(self.fault(ROOT, [leaf], NOW, accepts), (0, EXTENSION))
+        # a KeyUsage with zero bits at its end, and critical, by hand; alone, and in front of a critical 2.5.29.14
+        usage = bytes.fromhex("300e0603551d0f0101ff040403020080")
+        for others in (b"", bytes.fromhex("300c0603551d0e0101ff04020400")):
+            leaf = written(bytes.fromhex("a003020102"), "CN=S", usage + others)
+            self.assertEqual(self.fault(ROOT, [leaf], NOW, accepts), (0, EXTENSION))
 
     def test_policies(self) -> None:
         mapping = ours.PolicyMappings([(POLICIES[0], POLICIES[2])])
@@ -356,6 +481,88 @@ class Validation(unittest.TestCase):
             with self.subTest(anchor=anchor.public_bytes(), path=path, words=words):
                 self.told(anchor, path, words, wanted)
 
+    def test_descriptions_by_hand(self) -> None:
+        """RFC 5914 2.4, 2.5: descriptions of the name `Anchor` with the path length 0, and a certificate; and the status where one isn't followed, X509_MALFORMED or
+        X509_FAILED."""
+        rows: list[tuple[str, int | None]] = [
+            # a certificate of the anchor, with the path length 0
+            (
+                "a281bd3081ba300a300506032a03040301000401013081a83011310f300d06035504031306416e63686f72a08192308185a003020102020101300506032a030430"
+                "11310f300d06035504031306416e63686f72301e170d3130303130313038333030305a170d3330313233313038333030305a3011310f300d06035504031306416e"
+                "63686f72300a300506032a0304030100a322302030120603551d130101ff040830060101ff020100300a0603551d0e0403040101300506032a0304030100",
+                None,
+            ),
+            # without a key identifier
+            (
+                "a281b03081ad300a300506032a030403010004010130819b3011310f300d06035504031306416e63686f72a081853079a003020102020101300506032a03043011"
+                "310f300d06035504031306416e63686f72301e170d3130303130313038333030305a170d3330313233313038333030305a3011310f300d06035504031306416e63"
+                "686f72300a300506032a0304030100a316301430120603551d130101ff040830060101ff020100300506032a0304030100",
+                None,
+            ),
+            # of another name
+            (
+                "a281bd3081ba300a300506032a03040301000401013081a83011310f300d06035504031306416e63686f72a08192308185a003020102020101300506032a030430"
+                "11310f300d06035504031306616e63686f72301e170d3130303130313038333030305a170d3330313233313038333030305a3011310f300d06035504031306616e"
+                "63686f72300a300506032a0304030100a322302030120603551d130101ff040830060101ff020100300a0603551d0e0403040101300506032a0304030100",
+                3,
+            ),
+            # of another key
+            (
+                "a281be3081bb300a300506032a03040301000401013081a93011310f300d06035504031306416e63686f72a08193308186a003020102020101300506032a030430"
+                "11310f300d06035504031306416e63686f72301e170d3130303130313038333030305a170d3330313233313038333030305a3011310f300d06035504031306416e"
+                "63686f72300b300506032a030403020001a322302030120603551d130101ff040830060101ff020100300a0603551d0e0403040101300506032a0304030100",
+                3,
+            ),
+            # of another key identifier
+            (
+                "a281bd3081ba300a300506032a03040301000401013081a83011310f300d06035504031306416e63686f72a08192308185a003020102020101300506032a030430"
+                "11310f300d06035504031306416e63686f72301e170d3130303130313038333030305a170d3330313233313038333030305a3011310f300d06035504031306416e"
+                "63686f72300a300506032a0304030100a322302030120603551d130101ff040830060101ff020100300a0603551d0e0403040102300506032a0304030100",
+                3,
+            ),
+            # with its key identifier twice
+            (
+                "a281c93081c6300a300506032a03040301000401013081b43011310f300d06035504031306416e63686f72a0819e308191a003020102020101300506032a030430"
+                "11310f300d06035504031306416e63686f72301e170d3130303130313038333030305a170d3330313233313038333030305a3011310f300d06035504031306416e"
+                "63686f72300a300506032a0304030100a32e302c30120603551d130101ff040830060101ff020100300a0603551d0e0403040101300a0603551d0e040304010130"
+                "0506032a0304030100",
+                3,
+            ),
+            # whose key identifier is a NULL
+            (
+                "a281bc3081b9300a300506032a03040301000401013081a73011310f300d06035504031306416e63686f72a08191308184a003020102020101300506032a030430"
+                "11310f300d06035504031306416e63686f72301e170d3130303130313038333030305a170d3330313233313038333030305a3011310f300d06035504031306416e"
+                "63686f72300a300506032a0304030100a321301f30120603551d130101ff040830060101ff02010030090603551d0e04020500300506032a0304030100",
+                2,
+            ),
+            # no certificate, and an extension 1.2.3.4 that is not critical
+            ("a2383036300a300506032a030403010004010130163011310f300d06035504031306416e63686f72840100a10d300b300906032a030404020500", None),
+            # where that extension is critical
+            ("a23b3039300a300506032a030403010004010130163011310f300d06035504031306416e63686f72840100a110300e300c06032a03040101ff04020500", 3),
+            # with a NameConstraints that is not critical in its place
+            ("a23f303d300a300506032a030403010004010130163011310f300d06035504031306416e63686f72840100a114301230100603551d1e04093007a1053003820161", 3),
+            # an empty name
+            ("a2183016300a300506032a030403010004010130053000840100", 3),
+            # a certificate with an empty subject
+            (
+                "305c3050a003020102020101300506032a03043011310f300d06035504031306416e63686f72301e170d3130303130313038333030305a170d3330313233313038"
+                "333030305a3000300a300506032a0304030100300506032a0304030100",
+                3,
+            ),
+            ("0500", 2),
+        ]
+        path = [made("CN=Anchor", "CN=A", OTHER_KEY, CA), made("CN=A", "CN=S", KEY)]
+        for data, status in rows:
+            with self.subTest(data):
+                if status is None:
+                    # one certificate may follow, and none below it
+                    self.assertEqual(len(ours.validate_path(ours.TrustAnchor(bytes.fromhex(data)), path[:1], NOW, accepts).certificates), 1)
+                    self.assertEqual(self.fault(ours.TrustAnchor(bytes.fromhex(data)), path, NOW, accepts), (0, PATH_LEN))
+                else:
+                    with self.assertRaises(ours.X509Error) as caught:
+                        ours.validate_path(ours.TrustAnchor(bytes.fromhex(data)), path, NOW, accepts)
+                    self.assertEqual(caught.exception.status, status)
+
     def test_policies_of_an_anchor_that_cannot_be_read(self) -> None:
         identifiers = ours.ExtensionOID.CERTIFICATE_POLICIES, ours.ExtensionOID.POLICY_CONSTRAINTS, ours.ExtensionOID.INHIBIT_ANY_POLICY
         for oid in identifiers:
@@ -388,6 +595,9 @@ class Validation(unittest.TestCase):
         plain, full = (element(0x30, element(0x30, bytes.fromhex("06032a0304"), it), bytes.fromhex("030100")) for it in (b"", b"\2\1\7"))
         self.assertEqual(ours.working_key(full, plain), full)
         self.assertEqual([ours.working_key(above, key) for above, key in ((plain, full), (KEY, plain), (full, KEY))], [full, plain, KEY])
+        # NULL is no parameters
+        null = element(0x30, element(0x30, bytes.fromhex("06032a0304"), b"\5\0"), bytes.fromhex("030100"))
+        self.assertEqual(ours.working_key(null, plain), plain)
         with self.assertRaises(ours.X509Error):
             ours.working_key(full, b"\5\0")
         keys: list[bytes] = []

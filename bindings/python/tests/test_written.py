@@ -107,7 +107,7 @@ class Written(unittest.TestCase):
 
     def test_lists(self) -> None:
         our, their = self.names()
-        for number in (0, 127, 128, 1 << 64):
+        for number in (0, 127, 128, 1 << 64, (1 << 159) - 1):
             self.same(ours.CRLNumber(number), theirs.CRLNumber(number))
             self.same(ours.DeltaCRLIndicator(number), theirs.DeltaCRLIndicator(number))
         for reason in ours.ReasonFlags:
@@ -198,6 +198,9 @@ class Refused(unittest.TestCase):
             lambda: ours.InhibitAnyPolicy(-1),
             lambda: ours.InhibitAnyPolicy(1 << 32),
             lambda: ours.CRLNumber(-1),
+            # of 21 octets (RFC 5280 5.2.3)
+            lambda: ours.CRLNumber(1 << 159),
+            lambda: ours.DeltaCRLIndicator(1 << 159),
             lambda: ours.AuthorityKeyIdentifier(None, None, 1 << 200),
             lambda: ours.CRLDistributionPoints([ours.DistributionPoint(None, None, frozenset({"other"}), None)]),
         ):

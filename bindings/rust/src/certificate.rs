@@ -397,8 +397,8 @@ impl<'a> CertificateRef<'a> {
         ffi::logged_precertificate_signed_by(self.der, signing.as_der())
     }
 
-    /// The rules that it breaks beyond the grammar, those of RFC 5280 and of the standards on keys and signatures that `docs/RULES.md` of
-    /// the sources lists, in their order; none where it breaks none.
+    /// The rules that it breaks beyond the grammar, those of RFC 5280 and of other standards on keys, signatures, names and extensions that
+    /// `docs/RULES.md` of the sources lists, in their order; none where it breaks none.
     ///
     /// # Errors
     /// [`Error::Memory`].

@@ -21,8 +21,8 @@ macro_rules! filled {
     };
     ($failed:expr, $call:ident: $($given:tt),*) => {
         fill($failed, |out, room, written| {
-            // SAFETY: the header lets the call read the slices, which are lent for it, take any numbers, and write to `out[0..room)` and `written`, which
-            // `wanted` and `fill` own.
+            // SAFETY: the header lets the call read the slices and structs, which are lent for it, take any numbers, and write to `out[0..room)` and
+            // `written`, which `wanted` and `fill` own.
             unsafe { lent!($call: $($given),*, (out), (room), (written)) }
         })
     };

@@ -3,7 +3,6 @@ use crate::error::Error;
 use crate::ffi::{self, iterator, Members};
 use crate::name::NameRef;
 use crate::oid::ObjectIdentifier;
-use crate::writing::{context_elements, element, SEQUENCE};
 use std::net::IpAddr;
 
 /// A general name, by what it holds. An X.400 address is refused as malformed.
@@ -102,7 +101,8 @@ impl<'a> GeneralName<'a> {
             GeneralName::EdiPartyName(fields) => fields,
             _ => return Ok(None),
         };
-        let names = element(SEQUENCE, &element(context_elements(5), fields));
+        let name = ffi::build::general_name(ffi::GENERAL_NAME_EDI_PARTY, fields)?;
+        let names = ffi::build::general_names(&name)?;
         let found = ffi::GENERAL_NAMES.over(&names).next();
         let view = found.ok_or(Error::Unexpected)??;
         let assigner = view.name_assigner.part(&names)?;

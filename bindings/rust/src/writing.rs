@@ -1,22 +1,13 @@
 //! DER that is written here (X.690 8.1). The library reads back what is made of it before anyone else does.
 use crate::oid::ObjectIdentifier;
 
-pub(crate) const BOOLEAN: u8 = 0x01;
 pub(crate) const INTEGER: u8 = 0x02;
-pub(crate) const BIT_STRING: u8 = 0x03;
 pub(crate) const OCTET_STRING: u8 = 0x04;
 pub(crate) const NULL: u8 = 0x05;
 pub(crate) const OBJECT_IDENTIFIER: u8 = 0x06;
-pub(crate) const ENUMERATED: u8 = 0x0a;
 pub(crate) const IA5_STRING: u8 = 0x16;
-pub(crate) const GENERALIZED_TIME: u8 = 0x18;
 pub(crate) const SEQUENCE: u8 = 0x30;
 pub(crate) const SET: u8 = 0x31;
-
-/// The identifier octet of a tag of the context-specific class whose content is no elements; the number is below 31.
-pub(crate) const fn context(number: u8) -> u8 {
-    0x80 | number
-}
 
 /// The identifier octet of a tag of the context-specific class whose content is elements; the number is below 31.
 pub(crate) const fn context_elements(number: u8) -> u8 {
@@ -64,20 +55,6 @@ pub(crate) fn unsigned(octets: &[u8]) -> Vec<u8> {
     }
 }
 
-/// A BIT STRING, under this identifier octet, of named bits, of which the n-th is `1 << n` (X.690 11.2.2).
-pub(crate) fn named_bits(identifier: u8, bits: u32) -> Vec<u8> {
-    let octets = bits.reverse_bits().to_be_bytes();
-    let used = 32 - bits.leading_zeros();
-    let len = (used + 7) / 8;
-    let unused = len * 8 - used;
-    // both are below 33
-    let content: Vec<u8> = [unused as u8]
-        .into_iter()
-        .chain(octets.into_iter().take(len as usize))
-        .collect();
-    element(identifier, &content)
-}
-
 #[cfg(test)]
 mod tests {
     use super::*;
@@ -99,16 +76,5 @@ mod tests {
         assert_eq!(unsigned(b"\x7f"), b"\x7f");
         assert_eq!(unsigned(b"\x00\x80"), b"\x00\x80");
         assert_eq!(unsigned(b"\x01\x00"), b"\x01\x00");
-    }
-
-    // X.690 11.2.2, and the key usages of RFC 5280 4.2.1.3
-    #[test]
-    fn bits() {
-        assert_eq!(named_bits(BIT_STRING, 0), b"\x03\x01\x00");
-        assert_eq!(named_bits(BIT_STRING, 0x001), b"\x03\x02\x07\x80");
-        assert_eq!(named_bits(BIT_STRING, 0x005), b"\x03\x02\x05\xa0");
-        assert_eq!(named_bits(BIT_STRING, 0x060), b"\x03\x02\x01\x06");
-        assert_eq!(named_bits(BIT_STRING, 0x080), b"\x03\x02\x00\x01");
-        assert_eq!(named_bits(BIT_STRING, 0x100), b"\x03\x03\x07\x00\x80");
     }
 }

@@ -6,6 +6,7 @@
 mod anchor;
 mod build;
 mod certificate;
+mod described;
 mod document;
 mod key;
 mod lint;

@@ -4,7 +4,7 @@ ghost use Rattle.std.specs.Prelude.{◌≡◌, ◌≤◌, ◌<◌, ◌+◌};
 ghost use Rattle.x509_c_calls.specs.Attributes.{IsAttribute};
 ghost use Rattle.x509_c_calls.specs.Cursor.{Steps};
 ghost use Rattle.x509_c_calls.specs.FirstAttribute.{FindsAttribute};
-ghost use Rattle.x509_c_calls.specs.NamesMatch.{TellsWhetherNamesMatch};
+ghost use Rattle.x509_c_calls.specs.NamesMatch.{TellsWhetherNamesEqual, TellsWhetherNamesMatch};
 ghost use Rattle.x509_c_calls.specs.Status.{Tells};
 ghost use Rattle.x509_c_calls.specs.declared.status.status.Status.TheVariants.{Refused};
 ghost use Rattle.x509_der.specs.declared.error.ErrorKind.TheVariants.{Malformed, Memory};
@@ -12,7 +12,8 @@ ghost use Rattle.x509_name.specs.Names.{relative_distinguished_name};
 
 use std::alloc::Global;
 use x509_c_calls::{
-    AttributeView, Span, element_next, member_next, member_under_next, name_attribute, names_match,
+    AttributeView, Span, element_next, member_next, member_under_next, name_attribute, names_equal,
+    names_match,
 };
 use x509_der::{Decode, Grammar, Tag};
 use x509_name::attr::AttributeTypeAndValue;
@@ -84,4 +85,13 @@ pub extern "C" fn x509_names_match(alloc: Global, a: &[u8], b: &[u8], matches: &
         × (a.now ≡ b.now → status ≡ Refused Memory → ⊥)) result }
 {
     names_match(alloc, a, b, matches).code()
+}
+
+/// Fills in whether two encoded names are equal byte for byte: 1 where they are, else 0.
+#[unsafe(no_mangle)]
+pub extern "C" fn x509_names_equal(a: &[u8], b: &[u8], equal: &mut u32) -> i32
+    ensures { Tells (λ status. TellsWhetherNamesEqual ⟦<Name as Grammar>⟧.form ⟦<Name as Grammar>⟧.refuses a.now b.now equal.old equal.new status
+        × (status ≡ Refused Memory → ⊥)) result }
+{
+    names_equal(a, b, equal).code()
 }

@@ -59,3 +59,6 @@ pub mod ChainWalks
 pub mod FoundPlaces
 pub mod SearchLimits
 pub mod BadLinks
+pub mod DescribedLists
+pub mod DescribedNames
+pub mod DescribedOids

@@ -62,6 +62,9 @@ pub mod Elements
 pub mod KeyIdentifiers
 pub mod Access
 pub mod Policies
+pub mod Described
+pub mod DescribedParts
+pub mod DescribedPoints
 pub mod Notices
 pub mod Points
 pub mod Subtrees

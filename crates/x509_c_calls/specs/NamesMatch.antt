@@ -1,4 +1,4 @@
--- What a call leaves that asks whether two encoded names match (RFC 5280 7.1).
+-- What calls leave that ask whether two encoded names match (RFC 5280 7.1), or are equal.
 use Rattle.std.specs.Prelude.{◌≡◌, ◌⊎◌, ℕ, List}
 use Rattle.x509_c_calls.specs.declared.status.status.Status.{Status}
 use Rattle.x509_c_calls.specs.declared.status.status.Status.TheVariants.{Done, Refused}
@@ -33,3 +33,14 @@ unfoldable pub TellsWhetherNamesMatch : Form (List (List AttributeTypeAndValue))
 TellsWhetherNamesMatch form refuses a b was is Done = (names : TwoNames form a b) × IsAnswer names.left names.right is
 TellsWhetherNamesMatch form refuses a b was is (Refused e) = IsWhyRefused form refuses a b e × (is ≡ was)
 TellsWhetherNamesMatch form refuses a b was is _ = ⊥
+
+-- 1 where they are the same bytes, else 0
+abbrev pub IsSame : List ℕ → List ℕ → ℕ → Type 0
+IsSame a b answer = ((answer ≡ 1) × (a ≡ b)) ⊎ ((answer ≡ 0) × (a ≡ b → ⊥))
+
+-- Done: both are names, and whether they are equal is filled in; else the first that is no name is refused, and what isn't filled in stays as it was.
+unfoldable pub TellsWhetherNamesEqual : Form (List (List AttributeTypeAndValue)) → (ErrorKind → Type 0) → List ℕ → List ℕ → ℕ → ℕ → Status → Type 0
+TellsWhetherNamesEqual form refuses a b was is Done = TwoNames form a b × IsSame a b is
+TellsWhetherNamesEqual form refuses a b was is (Refused e) =
+    (IsRefused form refuses a e ⊎ ((left : List (List AttributeTypeAndValue)) × Spells form left a × IsRefused form refuses b e)) × (is ≡ was)
+TellsWhetherNamesEqual form refuses a b was is _ = ⊥

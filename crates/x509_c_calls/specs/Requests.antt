@@ -1,6 +1,6 @@
 -- The bytes to be signed of a CSR that is built (RFC 2986 4.1).
 use Rattle.std.specs.List.Sorted.{IsStrictlySortedBy, IsPermutation}
-use Rattle.std.specs.Prelude.{◌≡◌, ◌⊎◌, ℕ, List, Result, Ok, Err}
+use Rattle.std.specs.Prelude.{◌≡◌, ◌⊎◌, ℕ, List, Result, Ok, Err, Any}
 use Rattle.x509_base.specs.SubjectPublicKeyInfo.{subject_public_key_info}
 use Rattle.x509_build.specs.RequestParts.{next_part}
 use Rattle.x509_c_calls.specs.Input.{RefusesEach, SpellEach}
@@ -9,6 +9,7 @@ use Rattle.x509_c_calls.specs.declared.status.status.Status.{Status}
 use Rattle.x509_c_calls.specs.declared.status.status.Status.TheVariants.{Repeated, Refused}
 use Rattle.x509_c_calls.specs.declared.build.request.RequestInputs.{RequestInputs}
 use Rattle.x509_cert.specs.CertReq.{cert_req_info}
+use Rattle.x509_cert.specs.Identifiers.{pkcs_9}
 use Rattle.x509_der.specs.Set.{AreDistinct}
 use Rattle.x509_der.specs.declared.error.ErrorKind.{ErrorKind}
 use Rattle.x509_der.specs.declared.error.ErrorKind.TheVariants.{SetDuplicate}
@@ -23,14 +24,20 @@ use Rattle.x509_types.specs.Reencoding.{IsRefused}
 
 -- ---- what a call takes
 
--- the set of the attributes whose encodings the bytes are
-abbrev pub IsSetOf : List ℕ → List Attribute → Type 0
-IsSetOf bytes set = (given : List Attribute) × SpellEach attribute given bytes × IsPermutation given set × IsStrictlySortedBy attribute_cmp set
+-- one of them asks for extensions, as the one does that the builder makes (RFC 2985 5.4.2)
+abbrev pub Ask : List Attribute → Type 0
+Ask attributes = Any (λ (it : Attribute). it.oid ≡ pkcs_9 14) attributes
 
--- there is none: the bytes are refused, or two of the attributes are equal
+-- the set of the attributes whose encodings the bytes are, none of which asks for extensions
+abbrev pub IsSetOf : List ℕ → List Attribute → Type 0
+IsSetOf bytes set =
+    (given : List Attribute) × SpellEach attribute given bytes × (Ask given → ⊥) × IsPermutation given set × IsStrictlySortedBy attribute_cmp set
+
+-- there is none: the bytes are refused, or one of the attributes asks for extensions, or two of them are equal
 abbrev pub RefusesSet : List ℕ → ErrorKind → Type 0
 RefusesSet bytes e =
-    RefusesEach attribute (λ e. ⊥) bytes e ⊎ ((given : List Attribute) × SpellEach attribute given bytes × (e ≡ SetDuplicate) × (¬ AreDistinct given))
+    RefusesEach attribute (λ e. ⊥) bytes e
+    ⊎ ((given : List Attribute) × SpellEach attribute given bytes × (e ≡ SetDuplicate) × (Ask given ⊎ (¬ AreDistinct given)))
 
 pub record AreRequestInputs (subject key attributes extensions : List ℕ) (inputs : RequestInputs) : Type 0 where
   pub subject_is : Spells name inputs.subject subject

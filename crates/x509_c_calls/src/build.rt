@@ -20,6 +20,7 @@ pub use certificate::build_certificate;
 pub use crl::build_crl;
 pub use device::build_device;
 pub use encode::{entry_encode, extension_encode};
+pub(crate) use input::read_each;
 pub use name::{attribute_encode, build_name, escape, relative_name_encode};
 pub use request::build_request;
 pub use root::build_root;

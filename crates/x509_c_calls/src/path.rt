@@ -15,6 +15,7 @@ mod validate;
 pub use answer::PathAnswer;
 pub use find::path_find;
 pub use path::{Fault, path_check};
+pub(crate) use pieces::cut;
 pub use question::PathQuestion;
 pub use search::{BadLink, FoundPath, PathSearch};
 pub(crate) use settings::numbers_of;

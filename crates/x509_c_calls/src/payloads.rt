@@ -1,10 +1,20 @@
-//! What the values of extensions hold, and where: a walk over the members of a list, and what a member says.
+//! What the values of extensions hold, and where: a walk over the members of a list, and what a member says; and values
+//! that are encoded of what a caller says of them.
 
 mod access;
 mod calls;
 mod constraints;
 mod cursor;
 mod decimal;
+mod described;
+mod described_access;
+mod described_issuer;
+mod described_list;
+mod described_moment;
+mod described_name;
+mod described_octets;
+mod described_point;
+mod described_purposes;
 mod element;
 mod extension;
 mod first;
@@ -32,6 +42,14 @@ pub use constraints::BasicConstraintsView;
 pub(crate) use cursor::left;
 pub use cursor::next;
 pub use decimal::decimal_text;
+pub use described::{Described, encode};
+pub use described_access::{access_encode, name_constraints_encode, subtree_encode};
+pub use described_issuer::authority_key_identifier_encode;
+pub use described_list::list_encode;
+pub use described_name::{general_name_encode, other_name_encode};
+pub use described_octets::{crl_number_encode, subject_key_identifier_encode};
+pub use described_point::{distribution_point_encode, issuing_distribution_point_encode};
+pub use described_purposes::extended_key_usage_encode;
 pub use element::ElementView;
 pub use extension::ExtensionEntry;
 pub(crate) use extension::flag;

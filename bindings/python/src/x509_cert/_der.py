@@ -1,9 +1,9 @@
-"""The elements of DER (X.690 8.1) that are written here, of which `_writing.py` makes values. Nothing here parses DER."""
+"""The elements of DER (X.690 8.1) that are written here, for what no call of the library encodes. Nothing here parses DER."""
 
 from __future__ import annotations
 
-BOOLEAN, INTEGER, BIT_STRING, OCTET_STRING, NULL, OBJECT_IDENTIFIER, ENUMERATED, SEQUENCE, SET = 1, 2, 3, 4, 5, 6, 10, 0x30, 0x31
-UTF8_STRING, IA5_STRING, GENERALIZED_TIME = 0x0C, 0x16, 0x18
+INTEGER, BIT_STRING, OCTET_STRING, NULL, OBJECT_IDENTIFIER, SEQUENCE, SET = 2, 3, 4, 5, 6, 0x30, 0x31
+UTF8_STRING, IA5_STRING = 0x0C, 0x16
 
 
 def context(number: int, of_elements: bool = False) -> int:
@@ -25,16 +25,3 @@ def integer(number: int, identifier: int = INTEGER) -> bytes:
     """An INTEGER, or what has such content octets (X.690 8.3)."""
     size = (number + (number < 0)).bit_length() // 8 + 1
     return element(identifier, number.to_bytes(size, "big", signed=True))
-
-
-def flag(is_set: bool, identifier: int = BOOLEAN) -> bytes:
-    """A BOOLEAN that is left out where it is false, its default."""
-    return element(identifier, b"\xff") if is_set else b""
-
-
-def named_bits(bits: int, identifier: int = BIT_STRING) -> bytes:
-    """A BIT STRING of named bits, of which the n-th is 1 << n (X.690 11.2.2)."""
-    used = bits.bit_length()
-    size = (used + 7) // 8
-    reverse = sum((bits >> bit & 1) << (8 * size - 1 - bit) for bit in range(used))
-    return element(identifier, bytes([8 * size - used]), reverse.to_bytes(size, "big"))

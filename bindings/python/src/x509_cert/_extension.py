@@ -5,7 +5,7 @@ from __future__ import annotations
 import ctypes
 from typing import ClassVar, Generic, Iterator, Self, Sequence, TypeVar, overload
 
-from ._given import octets
+from ._given import octets, whole
 from ._header import Span
 from ._pem import Encoding, encoded
 from .oid import ObjectIdentifier
@@ -55,6 +55,25 @@ def _part(span: Span, data: bytes) -> bytes | None:
 
 def _number(n: int) -> object:
     return ctypes.c_uint32(n)
+
+
+def number_of_32_bits(given: int, what: str) -> int:
+    """A number that a word of the library holds; a ValueError of another."""
+    if not 0 <= whole(given, what) < 1 << 32:
+        raise ValueError(f"{what} is below 0, or above 4,294,967,295")
+    return given
+
+
+def optional_number(given: int | None, what: str) -> tuple[int, int]:
+    """A number that may be left out, as a view says it: whether it is there, and what it is."""
+    return (0, 0) if given is None else (1, number_of_32_bits(given, what))
+
+
+def natural_octets(given: int, what: str) -> bytes:
+    """The octets of a number from 0 on, the most significant first."""
+    if whole(given, what) < 0:
+        raise ValueError(f"{what} isn't negative")
+    return given.to_bytes((given.bit_length() + 7) // 8 or 1, "big")
 
 
 _Member = TypeVar("_Member")

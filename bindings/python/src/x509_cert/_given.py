@@ -4,6 +4,7 @@ from __future__ import annotations
 
 import datetime
 import importlib
+import warnings
 from typing import Iterable, TypeVar
 
 _Kind = TypeVar("_Kind")
@@ -96,3 +97,9 @@ def whole_seconds(moment: datetime.datetime, what: str) -> int:
     if (moment - _EPOCH) % datetime.timedelta(seconds=1):
         raise ValueError(f"{what} has fractions of a second, which aren't encoded: .replace(microsecond=0) leaves them out")
     return found
+
+
+def no_backend(backend: object) -> None:
+    """Warns of a backend, which chose the library that `cryptography` called once: none is chosen here."""
+    if backend is not None:
+        warnings.warn("a backend is ignored", UserWarning, stacklevel=3)

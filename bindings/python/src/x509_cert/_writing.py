@@ -1,13 +1,24 @@
-"""DER that is written here (X.690 8.1), for what builders are given. The library reads it back before anyone else does; nothing here parses DER."""
+"""DER for what builders are given, by the library's own calls. It reads it back before anyone else does."""
 
 from __future__ import annotations
 
+import ctypes
 import datetime
 import ipaddress
 from typing import Any, Iterable
 
-from ._der import GENERALIZED_TIME, OBJECT_IDENTIFIER, SEQUENCE, context, element
+from ._der import OBJECT_IDENTIFIER, element
 from ._given import octets, some, whole_seconds
+from ._header import (
+    GENERAL_NAME_DIRECTORY,
+    GENERAL_NAME_DNS,
+    GENERAL_NAME_EDI_PARTY,
+    GENERAL_NAME_EMAIL,
+    GENERAL_NAME_IP,
+    GENERAL_NAME_REGISTERED_ID,
+    GENERAL_NAME_URI,
+)
+from ._library import fill
 from .general_name import (
     DirectoryName,
     DNSName,
@@ -19,25 +30,25 @@ from .general_name import (
     RFC822Name,
     UniformResourceIdentifier,
 )
-from .name import RelativeDistinguishedName
 from .oid import ObjectIdentifier
 
 # 9999-12-31T23:59:59Z, in seconds since 1970-01-01T00:00:00Z
 _LAST_SECOND = 253_402_300_799
 
 
-def generalized_time_der(moment: datetime.datetime, what: str, identifier: int = GENERALIZED_TIME) -> bytes:
-    """A GeneralizedTime (RFC 5280 4.1.2.5.2) of a moment with a time zone and without fractions of a second."""
-    if whole_seconds(moment, what) > _LAST_SECOND:
+def seconds_of(moment: datetime.datetime, what: str) -> int:
+    """The seconds since 1970 of a moment with a time zone and without fractions of a second, through the year 9999."""
+    seconds = whole_seconds(moment, what)
+    if seconds > _LAST_SECOND:
         raise ValueError(f"{what} is through the year 9999")
-    return element(identifier, f"{moment.astimezone(datetime.timezone.utc):%Y%m%d%H%M%SZ}".encode("ascii"))
+    return seconds
 
 
 def identifier_of(oid: ObjectIdentifier) -> bytes:
     return element(OBJECT_IDENTIFIER, oid.content)
 
 
-_TEXTS: dict[type[GeneralName], int] = {RFC822Name: 1, DNSName: 2, UniformResourceIdentifier: 6}
+_TEXTS: dict[type[GeneralName], int] = {RFC822Name: GENERAL_NAME_EMAIL, DNSName: GENERAL_NAME_DNS, UniformResourceIdentifier: GENERAL_NAME_URI}
 
 
 def _address(value: Any) -> bytes:
@@ -48,28 +59,34 @@ def _address(value: Any) -> bytes:
     return octets(value, "an address")
 
 
-def general_name_der(name: GeneralName) -> bytes:
-    """A general name (RFC 5280 4.2.1.6). A ValueError where it has none, as a DNS name that isn't ASCII."""
+def _held(name: GeneralName) -> tuple[int, bytes]:
+    """The kind of a general name that isn't an otherName, and the octets that it holds. A ValueError where it has none, as a DNS name that isn't ASCII."""
     number = _TEXTS.get(type(name))
     if number is not None:
-        return element(context(number), name.value.encode("ascii"))
-    if isinstance(name, OtherName):
-        return element(context(0, True), identifier_of(name.type_id), element(context(0, True), name.data))
+        return number, name.value.encode("ascii")
     if isinstance(name, DirectoryName):
-        return element(context(4, True), name.value.public_bytes())
+        return GENERAL_NAME_DIRECTORY, name.value.public_bytes()
     if isinstance(name, EDIPartyName):
-        return element(context(5, True), name.value)
+        return GENERAL_NAME_EDI_PARTY, name.value
     if isinstance(name, IPAddress):
-        return element(context(7), _address(name.value))
+        return GENERAL_NAME_IP, _address(name.value)
     if isinstance(name, RegisteredID):
-        return element(context(8), name.value.content)
+        return GENERAL_NAME_REGISTERED_ID, name.value.content
     raise ValueError(f"{name!r} is no general name")
 
 
-def general_names_der(names: Iterable[GeneralName], identifier: int = SEQUENCE) -> bytes:
-    return element(identifier, *map(general_name_der, some(names, GeneralName, "general names")))
+def general_name_der(name: GeneralName) -> bytes:
+    """A general name (RFC 5280 4.2.1.6). A ValueError where it has none."""
+    if isinstance(name, OtherName):
+        return fill("x509_other_name_encode", name.type_id.content, name.data)
+    kind, content = _held(name)
+    return fill("x509_general_name_encode", ctypes.c_uint32(kind), content)
 
 
-def relative_name_der(name: RelativeDistinguishedName, identifier: int) -> bytes:
-    """A relative name under another tag than its own."""
-    return bytes([identifier]) + name.public_bytes()[1:]
+def names_joined(names: Iterable[GeneralName]) -> bytes:
+    """General names one after the other, as the calls take lists of them."""
+    return b"".join(map(general_name_der, some(names, GeneralName, "general names")))
+
+
+def general_names_der(names: Iterable[GeneralName]) -> bytes:
+    return fill("x509_general_names_encode", names_joined(names))

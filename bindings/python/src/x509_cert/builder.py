@@ -21,7 +21,7 @@ from . import _cryptography
 from ._cryptography import AnyAlgorithm, AnyPublicKey, AnySigner, PrivateKeyOfCryptography, algorithm_bytes, key_bytes
 from ._der import BIT_STRING, SEQUENCE, SET, UTF8_STRING, context, element
 from ._extension import ExtensionType
-from ._given import instance, listed, octets, whole, whole_seconds
+from ._given import instance, listed, no_backend, octets, whole, whole_seconds
 from ._header import RequestAttributeView
 from ._library import fill, walk
 from ._writing import identifier_of
@@ -280,6 +280,7 @@ class CertificateBuilder(_WithExtensions):
         rsa_padding: Any = None,
     ) -> Certificate:
         """The certificate with the signer's signature, or the private key's."""
+        no_backend(backend)
         how = _How(algorithm, signer, private_key, rsa_padding)
         return Certificate(how.signed(self.tbs_certificate_bytes(how.algorithm)))
 
@@ -403,6 +404,7 @@ class CertificateRevocationListBuilder(_WithExtensions):
         rsa_padding: Any = None,
     ) -> CertificateRevocationList:
         """The CRL with the signer's signature, or the private key's."""
+        no_backend(backend)
         how = _How(algorithm, signer, private_key, rsa_padding)
         return CertificateRevocationList(how.signed(self._part(how.algorithm, how.public_key)))
 
@@ -483,6 +485,7 @@ class CertificateSigningRequestBuilder(_WithExtensions):
         rsa_padding: Any = None,
     ) -> CertificateSigningRequest:
         """The CSR with the signer's signature, or the private key's, which is that of its public key; a ValueError where another one was given."""
+        no_backend(backend)
         how = _How(algorithm, signer, private_key, rsa_padding)
         if how.public_key is not None and self._public_key not in (None, how.public_key):
             raise ValueError("a CSR is signed by the private key of its public key")

@@ -9,7 +9,7 @@ import importlib
 import secrets
 from typing import Any, NamedTuple, Sequence
 
-from ._given import der_of, instance, octets
+from ._given import der_of, instance, no_backend, octets
 from ._header import ABSENT, FAULT, OK, RAW, RFC5280, CertificateView, PathFaultView, SignatureView, Span
 from ._keyed import Keyed
 from ._library import X509Error, fill, number, status_of, view
@@ -177,6 +177,7 @@ class Certificate(Keyed, Signed):
 
 def load_der_x509_certificate(data: bytes, backend: object = None) -> Certificate:
     """The certificate that the bytes are; an X509Error where they are none."""
+    no_backend(backend)
     return Certificate(data)
 
 
@@ -186,6 +187,7 @@ _LABELS = ("CERTIFICATE", "X509 CERTIFICATE")
 
 def load_pem_x509_certificate(data: bytes, backend: object = None) -> Certificate:
     """The first certificate in PEM (RFC 7468 5); a ValueError where there is none."""
+    no_backend(backend)
     return Certificate(blocks(data, _LABELS)[0])
 
 

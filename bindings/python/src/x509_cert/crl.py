@@ -11,7 +11,7 @@ from typing import Iterator, overload
 from . import _cryptography
 from ._cryptography import AnyPublicKey
 from ._extension import ExtensionType
-from ._given import der_of, instance, octets, whole, whole_seconds
+from ._given import der_of, instance, no_backend, octets, whole, whole_seconds
 from ._header import CrlEntryView, CrlView, SignatureView, Span
 from ._library import fill, find, indexed, view, walk
 from ._numbers import moment, serial_element, whole_number
@@ -111,6 +111,7 @@ class RevokedCertificateBuilder:
 
     def build(self, backend: object = None) -> RevokedCertificate:
         """The entry; a ValueError where something wasn't given."""
+        no_backend(backend)
         if self._serial_number is None or self._revocation_date is None:
             raise ValueError("the serial number and the revocation date have to be given")
         return RevokedCertificate(self._serial_number, self._revocation_date, None, Extensions(self._extensions))
@@ -232,11 +233,13 @@ def crl_of(given: object, what: str) -> CertificateRevocationList:
 
 def load_der_x509_crl(data: bytes, backend: object = None) -> CertificateRevocationList:
     """The CRL that the bytes are; an X509Error where they are none."""
+    no_backend(backend)
     return CertificateRevocationList(data)
 
 
 def load_pem_x509_crl(data: bytes, backend: object = None) -> CertificateRevocationList:
     """The first CRL in PEM (RFC 7468 6); a ValueError where there is none."""
+    no_backend(backend)
     return CertificateRevocationList(blocks(data, ("X509 CRL",))[0])
 
 

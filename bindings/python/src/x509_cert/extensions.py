@@ -2,6 +2,7 @@
 
 from __future__ import annotations
 
+import ctypes
 import datetime
 import enum
 import hashlib
@@ -10,8 +11,8 @@ from typing import TYPE_CHECKING, Generic, Iterable, Iterator, Sequence, TypeVar
 
 from . import _cryptography
 from ._cryptography import AnyPublicKey
-from ._der import ENUMERATED, OCTET_STRING, SEQUENCE, context, element, flag, integer, named_bits
-from ._extension import ExtensionType, ListExtension, _number, _part
+from ._der import OCTET_STRING, element, integer
+from ._extension import ExtensionType, ListExtension, _number, _part, natural_octets, optional_number
 from ._given import der_of, instance, listed, octets, some, whole
 from ._header import (
     AccessView,
@@ -27,7 +28,7 @@ from ._header import (
     TimestampView,
 )
 from ._library import fill, number, view, walk
-from ._writing import general_name_der, general_names_der, identifier_of, relative_name_der
+from ._writing import general_name_der, general_names_der, names_joined
 from .algorithms import ECDSA, RSA, algorithm_of
 from .general_name import DNSName, GeneralName, GeneralNames, IPAddress, general_name
 from .key import PublicKey
@@ -102,7 +103,9 @@ class KeyUsage(ExtensionType):
         if (encipher_only or decipher_only) and not key_agreement:
             raise ValueError("encipher_only and decipher_only are said of key_agreement")
         bits = sum(1 << bit for bit, is_set in enumerate(uses) if is_set)
-        self._write(named_bits(bits), bits=bits)
+        # no usage at all, which `cryptography` writes too, and RFC 5280 4.2.1.3 doesn't allow
+        none = bytes.fromhex("030100")
+        self._write(fill("x509_key_usage_encode", ctypes.c_uint32(bits)) if bits else none, bits=bits)
 
     def _read(self, data: bytes) -> None:
         super()._read(data)
@@ -126,10 +129,11 @@ class BasicConstraints(ExtensionType):
     oid = ExtensionOID.BASIC_CONSTRAINTS
 
     def __init__(self, ca: bool, path_length: int | None) -> None:
-        limit = b"" if path_length is None else integer(whole(path_length, "path_length"))
+        limit = optional_number(path_length, "path_length")
         if path_length is not None and not instance(ca, bool, "ca"):
             raise ValueError("a path length is one of an authority")
-        self._write(element(SEQUENCE, flag(instance(ca, bool, "ca")), limit), ca=ca, path_length=path_length)
+        told = BasicConstraintsView(int(instance(ca, bool, "ca")), *limit)
+        self._write(fill("x509_basic_constraints_encode", ctypes.byref(told)), ca=ca, path_length=path_length)
 
     def _read(self, data: bytes) -> None:
         super()._read(data)
@@ -145,7 +149,10 @@ class ExtendedKeyUsage(ListExtension[ObjectIdentifier]):
 
     def __init__(self, usages: Iterable[ObjectIdentifier]) -> None:
         usages = some(usages, ObjectIdentifier, "usages")
-        self._write(element(SEQUENCE, *map(identifier_of, usages)), usages=usages)
+        contents = [it.content for it in usages]
+        lens = (ctypes.c_size_t * len(contents))(*map(len, contents))
+        data = fill("x509_extended_key_usage_encode", b"".join(contents), lens, ctypes.c_size_t(len(contents)))
+        self._write(data, usages=usages)
 
     def _read(self, data: bytes) -> None:
         super()._read(data)
@@ -180,7 +187,7 @@ class SubjectKeyIdentifier(ExtensionType):
 
     def __init__(self, digest: bytes) -> None:
         digest = octets(digest, "a key identifier")
-        self._write(element(OCTET_STRING, digest), key_identifier=digest)
+        self._write(fill("x509_subject_key_identifier_encode", digest), key_identifier=digest)
 
     @classmethod
     def from_public_key(cls, public_key: AnyPublicKey) -> SubjectKeyIdentifier:
@@ -218,11 +225,12 @@ class AuthorityKeyIdentifier(ExtensionType):
         if (issuer is None) != (serial is None):
             raise ValueError("the issuer and the serial number of a certificate are given both, or neither of them")
         self._write(
-            element(
-                SEQUENCE,
-                b"" if identifier is None else element(context(0), identifier),
-                b"" if issuer is None else general_names_der(issuer, context(1, True)),
-                b"" if serial is None else integer(serial, context(2)),
+            fill(
+                "x509_authority_key_identifier_encode",
+                ctypes.c_uint32(identifier is not None),
+                identifier or b"",
+                b"" if issuer is None else general_names_der(issuer),
+                b"" if serial is None else integer(serial),
             ),
             key_identifier=identifier,
             authority_cert_issuer=issuer,
@@ -274,8 +282,8 @@ class AccessDescription:
 class _Access(ListExtension[AccessDescription]):
     def __init__(self, descriptions: Iterable[AccessDescription]) -> None:
         descriptions = some(descriptions, AccessDescription, "descriptions")
-        members = [element(SEQUENCE, identifier_of(it.access_method), general_name_der(it.access_location)) for it in descriptions]
-        self._write(element(SEQUENCE, *members), descriptions=descriptions)
+        members = [fill("x509_access_encode", it.access_method.content, general_name_der(it.access_location)) for it in descriptions]
+        self._write(fill("x509_info_access_encode", b"".join(members)), descriptions=descriptions)
 
     def _read(self, data: bytes) -> None:
         super()._read(data)
@@ -341,9 +349,9 @@ class DistributionPoint:
         return hash((self.full_name, self.relative_name, self.reasons, self.crl_issuer))
 
     def _der(self) -> bytes:
-        reasons = b"" if self.reasons is None else named_bits(_reason_bits(self.reasons), context(1))
-        issuer = b"" if self.crl_issuer is None else general_names_der(self.crl_issuer, context(2, True))
-        return element(SEQUENCE, _point_name_der(self.full_name, self.relative_name), reasons, issuer)
+        issuer = b"" if self.crl_issuer is None else names_joined(self.crl_issuer)
+        has_reasons, reasons = map(ctypes.c_uint32, _reason_numbers(self.reasons))
+        return fill("x509_distribution_point_encode", *_point_name_der(self.full_name, self.relative_name), has_reasons, reasons, issuer)
 
     def __repr__(self) -> str:
         return f"<DistributionPoint(full_name={self.full_name!r}, reasons={self.reasons!r}, crl_issuer={self.crl_issuer!r})>"
@@ -361,6 +369,11 @@ def _flag(name: str) -> ReasonFlags | str:
 def _reason_bits(reasons: frozenset[ReasonFlags | str]) -> int:
     """The bits of these reasons, by their names."""
     return sum(1 << REASONS.index(name) for name in reasons)
+
+
+def _reason_numbers(reasons: frozenset[ReasonFlags | str] | None) -> tuple[int, int]:
+    """Reasons as a view says them: whether they are there, and their bits."""
+    return (0, 0) if reasons is None else (1, _reason_bits(reasons))
 
 
 def _given_reasons(reasons: Iterable[ReasonFlags | str] | None) -> frozenset[ReasonFlags | str] | None:
@@ -390,12 +403,9 @@ def _point_name(
     return None if full is None else GeneralNames(full), None if relative is None else instance(relative, RelativeDistinguishedName, "a relative name")
 
 
-def _point_name_der(full: GeneralNames | None, relative: RelativeDistinguishedName | None) -> bytes:
-    if full is None and relative is None:
-        return b""
-    if relative is not None:
-        return element(context(0, True), relative_name_der(relative, context(1, True)))
-    return element(context(0, True), general_names_der(full or (), context(0, True)))
+def _point_name_der(full: GeneralNames | None, relative: RelativeDistinguishedName | None) -> tuple[bytes, bytes]:
+    """The full names of a point one after the other, and its relative name; what it doesn't have is no bytes."""
+    return b"" if full is None else names_joined(full), b"" if relative is None else relative.public_bytes()
 
 
 def _relative(span: Span, data: bytes) -> RelativeDistinguishedName | None:
@@ -406,7 +416,7 @@ def _relative(span: Span, data: bytes) -> RelativeDistinguishedName | None:
 class _DistributionPoints(ListExtension[DistributionPoint]):
     def __init__(self, distribution_points: Iterable[DistributionPoint]) -> None:
         points = some(distribution_points, DistributionPoint, "points")
-        self._write(element(SEQUENCE, *(it._der() for it in points)), points=points)
+        self._write(fill("x509_distribution_points_encode", b"".join(it._der() for it in points)), points=points)
 
     def _read(self, data: bytes) -> None:
         super()._read(data)
@@ -438,8 +448,8 @@ class NameConstraints(ExtensionType):
         permitted, excluded = map(_given_subtrees, (permitted_subtrees, excluded_subtrees))
         if permitted is None and excluded is None:
             raise ValueError("a list of names has to be given")
-        lists = (_subtrees_der(number, names) for number, names in enumerate((permitted, excluded)))
-        self._write(element(SEQUENCE, *lists), permitted_subtrees=permitted, excluded_subtrees=excluded)
+        lists = (_subtrees_der(names) for names in (permitted, excluded))
+        self._write(fill("x509_name_constraints_encode", *lists), permitted_subtrees=permitted, excluded_subtrees=excluded)
 
     def _read(self, data: bytes) -> None:
         super()._read(data)
@@ -454,7 +464,7 @@ class CRLNumber(ExtensionType):
     oid = ExtensionOID.CRL_NUMBER
 
     def __init__(self, crl_number: int) -> None:
-        self._write(integer(whole(crl_number, "a CRL number")), crl_number=crl_number)
+        self._write(fill("x509_crl_number_encode", natural_octets(crl_number, "a CRL number")), crl_number=crl_number)
 
     def _read(self, data: bytes) -> None:
         super()._read(data)
@@ -467,7 +477,7 @@ class DeltaCRLIndicator(ExtensionType):
     oid = ExtensionOID.DELTA_CRL_INDICATOR
 
     def __init__(self, crl_number: int) -> None:
-        self._write(integer(whole(crl_number, "a CRL number")), crl_number=crl_number)
+        self._write(fill("x509_crl_number_encode", natural_octets(crl_number, "a CRL number")), crl_number=crl_number)
 
     def _read(self, data: bytes) -> None:
         super()._read(data)
@@ -497,16 +507,15 @@ class IssuingDistributionPoint(ExtensionType):
             raise ValueError("a CRL speaks of one kind of certificates alone")
         if full is None and relative is None and not reasons and not any(kinds) and not instance(indirect_crl, bool, "indirect_crl"):
             raise ValueError("a CRL of all certificates that the issuer has doesn't say so")
+        scope = IssuingDistributionPointView(
+            only_contains_user_certs=int(only_contains_user_certs),
+            only_contains_ca_certs=int(only_contains_ca_certs),
+            indirect_crl=int(instance(indirect_crl, bool, "indirect_crl")),
+            only_contains_attribute_certs=int(only_contains_attribute_certs),
+        )
+        scope.has_only_some_reasons, scope.only_some_reasons = _reason_numbers(reasons)
         self._write(
-            element(
-                SEQUENCE,
-                _point_name_der(full, relative),
-                flag(only_contains_user_certs, context(1)),
-                flag(only_contains_ca_certs, context(2)),
-                b"" if reasons is None else named_bits(_reason_bits(reasons), context(3)),
-                flag(instance(indirect_crl, bool, "indirect_crl"), context(4)),
-                flag(only_contains_attribute_certs, context(5)),
-            ),
+            fill("x509_issuing_distribution_point_encode", ctypes.byref(scope), *_point_name_der(full, relative)),
             full_name=full,
             relative_name=relative,
             only_contains_user_certs=only_contains_user_certs,
@@ -568,7 +577,8 @@ class CRLReason(ExtensionType):
     oid = ExtensionOID.CRL_REASON
 
     def __init__(self, reason: ReasonFlags) -> None:
-        self._write(integer(int(instance(reason, ReasonFlags, "a reason").value), ENUMERATED), reason=reason)
+        given = instance(reason, ReasonFlags, "a reason")
+        self._write(fill("x509_crl_reason_encode", ctypes.c_uint32(int(given.value))), reason=given)
 
     def _read(self, data: bytes) -> None:
         super()._read(data)
@@ -758,8 +768,9 @@ def _key_digest(public_key: bytes) -> bytes:
     return hashlib.sha1(PublicKey(octets(public_key, "a public key")).bits).digest()
 
 
-def _subtrees_der(number: int, names: list[GeneralName] | None) -> bytes:
-    return b"" if names is None else element(context(number, True), *(element(SEQUENCE, general_name_der(it)) for it in names))
+def _subtrees_der(names: list[GeneralName] | None) -> bytes:
+    """Subtrees with these names one after the other."""
+    return b"".join(fill("x509_subtree_encode", general_name_der(it)) for it in names or ())
 
 
 def _given_subtrees(names: Iterable[GeneralName] | None) -> list[GeneralName] | None:

@@ -2,11 +2,11 @@
 
 from __future__ import annotations
 
+import ctypes
 import ipaddress
 from email.utils import parseaddr
 from typing import Any, Iterable, Iterator, Self, Union, overload
 
-from ._der import SEQUENCE, context, element
 from ._elements import text_of
 from ._given import instance, listed, octets
 from ._header import (
@@ -20,7 +20,7 @@ from ._header import (
     GeneralNameView,
     Span,
 )
-from ._library import walk
+from ._library import fill, walk
 from .name import Name
 from .oid import ObjectIdentifier
 
@@ -149,7 +149,7 @@ class EDIPartyName(GeneralName):
         return self._texts()[1]
 
     def _texts(self) -> tuple[str | None, str]:
-        names = element(SEQUENCE, element(context(5, True), self.value))
+        names = fill("x509_general_names_encode", fill("x509_general_name_encode", ctypes.c_uint32(GENERAL_NAME_EDI_PARTY), self.value))
         found = next(walk("x509_general_names_next", GeneralNameView, names))
         assigner: Span = found.name_assigner
         party: Span = found.party_name

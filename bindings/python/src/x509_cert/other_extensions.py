@@ -3,18 +3,19 @@
 
 from __future__ import annotations
 
+import ctypes
 import datetime
 import enum
 from typing import Any, Iterable, Sequence
 
-from ._der import NULL, SEQUENCE, SET, context, element, integer
+from ._der import NULL, SEQUENCE, SET, element, integer
 from ._elements import only
 from ._extension import ExtensionType, ListExtension
 from ._given import instance, octets, some, whole_list
 from ._header import MALFORMED, ElementView, PrivateKeyUsagePeriodView, RequestAttributeView
-from ._library import X509Error, seconds, view, walk
+from ._library import X509Error, fill, seconds, view, walk
 from ._numbers import moment, natural_numbers
-from ._writing import general_names_der, generalized_time_der, identifier_of
+from ._writing import general_names_der, identifier_of, seconds_of
 from .general_name import GeneralName, GeneralNames
 from .oid import ExtensionOID, ObjectIdentifier
 
@@ -88,11 +89,12 @@ class PrivateKeyUsagePeriod(ExtensionType):
     def __init__(self, not_before: datetime.datetime | None, not_after: datetime.datetime | None) -> None:
         if not_before is None and not_after is None:
             raise ValueError("a moment has to be given")
-        first = b"" if not_before is None else generalized_time_der(not_before, "the first moment", context(0))
-        last = b"" if not_after is None else generalized_time_der(not_after, "the last moment", context(1))
+        first = (0, 0) if not_before is None else (1, seconds_of(not_before, "the first moment"))
+        last = (0, 0) if not_after is None else (1, seconds_of(not_after, "the last moment"))
         if not_before is not None and not_after is not None and not_after < not_before:
             raise ValueError("the last moment is before the first moment")
-        self._write(element(SEQUENCE, first, last), not_before=not_before, not_after=not_after)
+        told = PrivateKeyUsagePeriodView(*first, *last)
+        self._write(fill("x509_private_key_usage_period_encode", ctypes.byref(told)), not_before=not_before, not_after=not_after)
 
     def _read(self, data: bytes) -> None:
         super()._read(data)
@@ -107,7 +109,8 @@ class InvalidityDate(ExtensionType):
     oid = ExtensionOID.INVALIDITY_DATE
 
     def __init__(self, invalidity_date: datetime.datetime) -> None:
-        self._write(generalized_time_der(invalidity_date, "the date"), invalidity_date_utc=invalidity_date)
+        told = ctypes.c_uint64(seconds_of(invalidity_date, "the date"))
+        self._write(fill("x509_invalidity_date_encode", told), invalidity_date_utc=invalidity_date)
 
     @property
     def invalidity_date(self) -> datetime.datetime:

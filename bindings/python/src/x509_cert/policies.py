@@ -2,14 +2,15 @@
 
 from __future__ import annotations
 
+import ctypes
 from typing import Iterable, Sequence
 
-from ._der import IA5_STRING, SEQUENCE, UTF8_STRING, context, element, integer
+from ._der import IA5_STRING, SEQUENCE, UTF8_STRING, element, integer
 from ._elements import checked, only, text_of
-from ._extension import ExtensionType, ListExtension, _number, _part
-from ._given import instance, listed, octets, some, whole, whole_list
+from ._extension import ExtensionType, ListExtension, _number, _part, number_of_32_bits, optional_number
+from ._given import instance, listed, octets, some, whole_list
 from ._header import PolicyConstraintsView, PolicyMappingView, PolicyQualifierView, PolicyView, Span, UserNoticeView
-from ._library import X509Error, number, view, walk
+from ._library import X509Error, fill, number, view, walk
 from ._numbers import natural_numbers
 from ._writing import identifier_of
 from .oid import CertificatePoliciesOID, ExtensionOID, ObjectIdentifier
@@ -250,10 +251,10 @@ class PolicyConstraints(ExtensionType):
     def __init__(self, require_explicit_policy: int | None, inhibit_policy_mapping: int | None) -> None:
         if require_explicit_policy is None and inhibit_policy_mapping is None:
             raise ValueError("a constraint on policies has to be given")
-        explicit = b"" if require_explicit_policy is None else integer(whole(require_explicit_policy, "a number of certificates"), context(0))
-        mapping = b"" if inhibit_policy_mapping is None else integer(whole(inhibit_policy_mapping, "a number of certificates"), context(1))
         given = {"require_explicit_policy": require_explicit_policy, "inhibit_policy_mapping": inhibit_policy_mapping}
-        self._write(element(SEQUENCE, explicit, mapping), **given)
+        numbers = [optional_number(it, "a number of certificates") for it in given.values()]
+        told = PolicyConstraintsView(*numbers[0], *numbers[1])
+        self._write(fill("x509_policy_constraints_encode", ctypes.byref(told)), **given)
 
     def _read(self, data: bytes) -> None:
         super()._read(data)
@@ -268,7 +269,8 @@ class InhibitAnyPolicy(ExtensionType):
     oid = ExtensionOID.INHIBIT_ANY_POLICY
 
     def __init__(self, skip_certs: int) -> None:
-        self._write(integer(whole(skip_certs, "a number of certificates")), skip_certs=skip_certs)
+        told = number_of_32_bits(skip_certs, "a number of certificates")
+        self._write(fill("x509_inhibit_any_policy_encode", ctypes.c_uint32(told)), skip_certs=skip_certs)
 
     def _read(self, data: bytes) -> None:
         super()._read(data)

@@ -8,7 +8,7 @@ from typing import Iterator
 from ._header import AnchorView, ElementView, PathControlsView, RequestAttributeView, RequestView, SignatureView, Span
 from ._library import fill, find, view, walk
 from ._extension import _part
-from ._given import octets
+from ._given import no_backend, octets
 from ._keyed import Keyed
 from ._pem import Encoding, blocks, encoded, refuse_pem
 from ._signed import Signed
@@ -136,11 +136,13 @@ class CertificateSigningRequest(Keyed, Signed):
 
 def load_der_x509_csr(data: bytes, backend: object = None) -> CertificateSigningRequest:
     """The CSR that the bytes are; an X509Error where they are none."""
+    no_backend(backend)
     return CertificateSigningRequest(data)
 
 
 def load_pem_x509_csr(data: bytes, backend: object = None) -> CertificateSigningRequest:
     """The first CSR in PEM (RFC 7468 7); a ValueError where there is none."""
+    no_backend(backend)
     return CertificateSigningRequest(blocks(data, ("CERTIFICATE REQUEST", "NEW CERTIFICATE REQUEST"))[0])
 
 

@@ -1,5 +1,5 @@
-//! Values of extensions as DER, for builders. What is written is read back by the library, and has to be the value, before it is given out. Values that
-//! RFC 5280 doesn't allow in their own extension are refused.
+//! Values of extensions as DER, for builders: by the library's own calls, or written here. What is written is read back by the library, and has to be the
+//! value, before it is given out. Values that RFC 5280 doesn't allow in their own extension are refused.
 use super::{
     AccessDescription, AuthorityInfoAccess, AuthorityKeyIdentifier, BaseCrlNumber,
     BasicConstraints, CertificateIssuer, CertificatePolicies, CrlDistributionPoints, CrlNumber,
@@ -11,15 +11,14 @@ use super::{
     SubjectDirectoryAttributes, SubjectInfoAccess, SubjectKeyIdentifier, TlsFeature,
 };
 use crate::error::Error;
+use crate::ffi;
 use crate::general_name::GeneralName;
 use crate::oid::{policy, ObjectIdentifier};
-use crate::time::time_text;
+use crate::time::seconds;
 use crate::writing::{
-    context, context_elements, element, elements, identifier, named_bits, unsigned, BIT_STRING,
-    BOOLEAN, ENUMERATED, GENERALIZED_TIME, INTEGER, NULL, OCTET_STRING, SEQUENCE, SET,
+    element, elements, identifier, unsigned, INTEGER, NULL, OCTET_STRING, SEQUENCE, SET,
 };
 use std::collections::HashSet;
-use std::time::SystemTime;
 
 /// What builders can put into an extension.
 pub trait ToExtension {
@@ -93,87 +92,79 @@ macro_rules! written {
 }
 
 written! {
-    KeyUsage, it if is_usage(*it) => named_bits(BIT_STRING, it.bits());
-    BasicConstraints, it if it.ca || it.path_len_constraint.is_none() => {
-        let limit = it.path_len_constraint.map(|number| integer(INTEGER, number));
-        elements(SEQUENCE, flag(BOOLEAN, it.ca).into_iter().chain(limit))
-    };
-    ExtendedKeyUsage, it if !it.0.is_empty() => elements(SEQUENCE, it.0.iter().map(identifier));
-    SubjectKeyIdentifier<'_>, it => element(OCTET_STRING, it.0);
+    KeyUsage, it => made(ffi::build::key_usage(it.bits()))?;
+    BasicConstraints, it => made(ffi::build::basic_constraints(it.ca, it.path_len_constraint))?;
+    ExtendedKeyUsage, it => made(ffi::build::extended_key_usage(it.0.iter().map(ObjectIdentifier::as_bytes)))?;
+    SubjectKeyIdentifier<'_>, it => made(ffi::build::subject_key_identifier(it.0))?;
     AuthorityKeyIdentifier<'_>, it if is_key_identifier(it) => {
-        let key = it.key_identifier.map(|octets| element(context(0), octets));
         let issuer = it.authority_cert_issuer.as_deref();
-        let issuer = issuer.map(|names| general_names(context_elements(1), names));
-        let serial = it.authority_cert_serial_number.map(|number| element(context(2), number.as_bytes()));
-        elements(SEQUENCE, key.into_iter().chain(issuer).chain(serial))
+        let issuer = issuer.map(general_names).transpose()?.unwrap_or_default();
+        let serial = it.authority_cert_serial_number.map(|number| element(INTEGER, number.as_bytes()));
+        made(ffi::build::authority_key_identifier(it.key_identifier, &issuer, &serial.unwrap_or_default()))?
     };
-    SubjectAltName<'_>, it if are_names(&it.0) => general_names(SEQUENCE, &it.0);
-    IssuerAltName<'_>, it if are_names(&it.0) => general_names(SEQUENCE, &it.0);
-    CertificateIssuer<'_>, it if are_names(&it.0) => general_names(SEQUENCE, &it.0);
-    AuthorityInfoAccess<'_>, it if has_only(&it.0, is_access) => elements(SEQUENCE, it.0.iter().map(access));
-    SubjectInfoAccess<'_>, it if has_only(&it.0, is_access) => elements(SEQUENCE, it.0.iter().map(access));
-    CrlDistributionPoints<'_>, it if has_only(&it.0, is_point) => elements(SEQUENCE, it.0.iter().map(point));
-    FreshestCrl<'_>, it if has_only(&it.0, is_point) => elements(SEQUENCE, it.0.iter().map(point));
-    IssuingDistributionPoint<'_>, it if is_issuing_point(it) => {
-        let name = it.distribution_point.as_ref().map(point_name);
-        let kinds = [(1, it.only_contains_user_certs), (2, it.only_contains_ca_certs)];
-        let others = [(4, it.indirect_crl), (5, it.only_contains_attribute_certs)];
-        let told = |(number, is_set)| flag(context(number), is_set);
-        let some = it.only_some_reasons.map(|of| reasons(3, of));
-        let front = name.into_iter().chain(kinds.into_iter().filter_map(told)).chain(some);
-        elements(SEQUENCE, front.chain(others.into_iter().filter_map(told)))
+    SubjectAltName<'_>, it if are_names(&it.0) => general_names(&it.0)?;
+    IssuerAltName<'_>, it if are_names(&it.0) => general_names(&it.0)?;
+    CertificateIssuer<'_>, it if are_names(&it.0) => general_names(&it.0)?;
+    AuthorityInfoAccess<'_>, it if has_only(&it.0, is_access) => made(ffi::build::info_access(&joined(&it.0, access)?))?;
+    SubjectInfoAccess<'_>, it if has_only(&it.0, is_access) => made(ffi::build::info_access(&joined(&it.0, access)?))?;
+    CrlDistributionPoints<'_>, it if has_only(&it.0, is_point) => made(ffi::build::distribution_points(&joined(&it.0, point)?))?;
+    FreshestCrl<'_>, it if has_only(&it.0, is_point) => made(ffi::build::distribution_points(&joined(&it.0, point)?))?;
+    IssuingDistributionPoint<'_>, it if is_point_name(it.distribution_point.as_ref()) => {
+        let (full, relative) = point_name(it.distribution_point.as_ref())?;
+        let scope = ffi::build::IssuingScope {
+            only_contains_user_certs: it.only_contains_user_certs,
+            only_contains_ca_certs: it.only_contains_ca_certs,
+            only_some_reasons: it.only_some_reasons.map(ReasonFlags::bits),
+            indirect_crl: it.indirect_crl,
+            only_contains_attribute_certs: it.only_contains_attribute_certs,
+        };
+        made(ffi::build::issuing_distribution_point((&full, &relative), &scope))?
     };
     NameConstraints<'_>, it if are_constraints(it) => {
-        let of = |number, list: &Option<Vec<GeneralSubtree<'_>>>| {
-            let list = list.as_deref();
-            list.map(|list| elements(context_elements(number), list.iter().map(subtree)))
-        };
-        let permitted = of(0, &it.permitted_subtrees);
-        elements(SEQUENCE, permitted.into_iter().chain(of(1, &it.excluded_subtrees)))
+        let permitted = joined(it.permitted_subtrees.as_deref().unwrap_or_default(), subtree)?;
+        let excluded = joined(it.excluded_subtrees.as_deref().unwrap_or_default(), subtree)?;
+        made(ffi::build::name_constraints(&permitted, &excluded))?
     };
     CertificatePolicies<'_>, it if are_policies(it) => elements(SEQUENCE, it.0.iter().map(policy));
     PolicyMappings, it if has_only(&it.0, is_mapping) => {
         let pairs = it.0.iter().map(|pair| [pair.issuer_domain_policy, pair.subject_domain_policy]);
         elements(SEQUENCE, pairs.map(|pair| elements(SEQUENCE, pair.iter().map(identifier))))
     };
-    PolicyConstraints, it if it.require_explicit_policy.is_some() || it.inhibit_policy_mapping.is_some() => {
-        let explicit = it.require_explicit_policy.map(|number| integer(context(0), number));
-        let mapping = it.inhibit_policy_mapping.map(|number| integer(context(1), number));
-        elements(SEQUENCE, explicit.into_iter().chain(mapping))
-    };
-    InhibitAnyPolicy, it => integer(INTEGER, it.0);
-    CrlNumber<'_>, it if is_crl_number(it.0.as_bytes()) => element(INTEGER, it.0.as_bytes());
-    BaseCrlNumber<'_>, it if is_crl_number(it.0.as_bytes()) => element(INTEGER, it.0.as_bytes());
-    CrlReason, it => integer(ENUMERATED, *it as u32);
+    PolicyConstraints, it => made(ffi::build::policy_constraints(it.require_explicit_policy, it.inhibit_policy_mapping))?;
+    InhibitAnyPolicy, it => made(ffi::build::inhibit_any_policy(it.0))?;
+    CrlNumber<'_>, it => made(ffi::build::crl_number(it.0.as_bytes()))?;
+    BaseCrlNumber<'_>, it => made(ffi::build::crl_number(it.0.as_bytes()))?;
+    CrlReason, it => made(ffi::build::crl_reason(*it as u32))?;
     SignedCertificateTimestamps<'_>, it if !it.0.is_empty() => {
         let members: Vec<u8> = it.0.iter().flat_map(|octets| with_length(octets)).collect();
         element(OCTET_STRING, &with_length(&members))
     };
-    PrivateKeyUsagePeriod, it if is_period(it) => {
-        let first = it.not_before.map(|moment| generalized_time(context(0), moment)).transpose()?;
-        let last = it.not_after.map(|moment| generalized_time(context(1), moment)).transpose()?;
-        elements(SEQUENCE, first.into_iter().chain(last))
+    PrivateKeyUsagePeriod, it => {
+        let [first, last] = [it.not_before, it.not_after].map(|it| it.map(seconds).transpose());
+        made(ffi::build::private_key_usage_period(first?, last?))?
     };
-    InvalidityDate, it => generalized_time(GENERALIZED_TIME, it.0)?;
+    InvalidityDate, it => made(ffi::build::invalidity_date(seconds(it.0)?))?;
     SubjectDirectoryAttributes<'_>, it if has_only(&it.0, |of| !of.values.is_empty()) => {
         elements(SEQUENCE, it.0.iter().map(directory_attribute))
     };
     PrecertPoison, _it => element(NULL, b"");
     OcspNoCheck, _it => element(NULL, b"");
     TlsFeature, it if !it.0.is_empty() => {
-        elements(SEQUENCE, it.0.iter().map(|number| integer(INTEGER, u32::from(*number))))
+        elements(SEQUENCE, it.0.iter().map(|number| element(INTEGER, &unsigned(&number.to_be_bytes()))))
     };
+}
+
+/// What a call writes; a value that it refuses is [`Error::Value`].
+fn made(written: Result<Vec<u8>, Error>) -> Result<Vec<u8>, Error> {
+    written.map_err(|e| match e {
+        Error::Memory => e,
+        _ => Error::Value,
+    })
 }
 
 /// A list SIZE (1..MAX) of such members, as all lists are in RFC 5280.
 fn has_only<T>(list: &[T], is_member: impl Fn(&T) -> bool) -> bool {
     !list.is_empty() && list.iter().all(is_member)
-}
-
-/// A set that isn't empty, of which the last two need the fifth (RFC 5280 4.2.1.3).
-fn is_usage(it: KeyUsage) -> bool {
-    let is_only = it.encipher_only() || it.decipher_only();
-    it != KeyUsage::default() && (it.key_agreement() || !is_only)
 }
 
 /// The issuer and the serial number are both there, or neither is (RFC 5280 A.2).
@@ -203,23 +194,10 @@ fn is_point_name(name: Option<&DistributionPointName<'_>>) -> bool {
     }
 }
 
-/// It has a name or an issuer (RFC 5280 4.2.1.13).
+/// Its names are lists of such names.
 fn is_point(it: &DistributionPoint<'_>) -> bool {
-    let (name, issuer) = (it.distribution_point.as_ref(), it.crl_issuer.as_deref());
-    (name.is_some() || issuer.is_some()) && is_point_name(name) && issuer.into_iter().all(are_names)
-}
-
-/// It says something, and no two of the kinds of certificates alone (RFC 5280 5.2.5).
-fn is_issuing_point(it: &IssuingDistributionPoint<'_>) -> bool {
-    let kinds = [
-        it.only_contains_user_certs,
-        it.only_contains_ca_certs,
-        it.only_contains_attribute_certs,
-    ];
-    let alone = kinds.into_iter().filter(|is_set| *is_set).count();
-    let name = it.distribution_point.as_ref();
-    let says_more = name.is_some() || it.only_some_reasons.is_some() || it.indirect_crl;
-    is_point_name(name) && (alone == 1 || alone == 0 && says_more)
+    is_point_name(it.distribution_point.as_ref())
+        && it.crl_issuer.as_deref().into_iter().all(are_names)
 }
 
 /// From the root on, of an address with its mask, and of a domain without a wildcard (RFC 5280 4.2.1.10).
@@ -232,11 +210,10 @@ fn is_subtree(it: &GeneralSubtree<'_>) -> bool {
     is_base && it.minimum == 0 && it.maximum.is_none()
 }
 
-/// There is one of the lists (RFC 5280 4.2.1.10).
+/// Neither of the lists is empty (RFC 5280 4.2.1.10).
 fn are_constraints(it: &NameConstraints<'_>) -> bool {
-    let (permitted, excluded) = (&it.permitted_subtrees, &it.excluded_subtrees);
-    let mut lists = permitted.iter().chain(excluded);
-    (permitted.is_some() || excluded.is_some()) && lists.all(|list| has_only(list, is_subtree))
+    let mut lists = it.permitted_subtrees.iter().chain(&it.excluded_subtrees);
+    lists.all(|list| has_only(list, is_subtree))
 }
 
 /// None is there twice (RFC 5280 4.2.1.4).
@@ -254,33 +231,9 @@ fn is_mapping(it: &PolicyMapping) -> bool {
     ![it.issuer_domain_policy, it.subject_domain_policy].contains(&policy::ANY_POLICY)
 }
 
-/// It says something, and doesn't end before it begins (RFC 3280 4.2.1.4).
-fn is_period(it: &PrivateKeyUsagePeriod) -> bool {
-    match (it.not_before, it.not_after) {
-        (Some(first), Some(last)) => first <= last,
-        (first, last) => first.or(last).is_some(),
-    }
-}
-
 /// The content octets are at most 20 (RFC 5280 5.2.3).
 pub(crate) fn is_crl_number(octets: &[u8]) -> bool {
     octets.len() <= 20
-}
-
-fn integer(identifier: u8, number: u32) -> Vec<u8> {
-    element(identifier, &unsigned(&number.to_be_bytes()))
-}
-
-/// A BOOLEAN that is left out where it is false, its default.
-fn flag(identifier: u8, is_set: bool) -> Option<Vec<u8>> {
-    is_set.then(|| element(identifier, &[0xff]))
-}
-
-/// A GeneralizedTime (RFC 5280 4.1.2.5.2) under an identifier octet: the digits of the text of a moment, and a Z.
-fn generalized_time(identifier: u8, moment: SystemTime) -> Result<Vec<u8>, Error> {
-    let text = time_text(moment)?;
-    let content: String = text.chars().filter(|it| it.is_ascii_digit()).collect();
-    Ok(element(identifier, (content + "Z").as_bytes()))
 }
 
 fn directory_attribute(it: &DirectoryAttribute<'_>) -> Vec<u8> {
@@ -294,66 +247,65 @@ fn with_length(octets: &[u8]) -> Vec<u8> {
     [&len.to_be_bytes(), octets].concat()
 }
 
-fn general_name(name: &GeneralName<'_>) -> Vec<u8> {
-    match name {
+/// The DER of the members one after the other, as the calls take lists.
+fn joined<T>(list: &[T], der: impl Fn(&T) -> Result<Vec<u8>, Error>) -> Result<Vec<u8>, Error> {
+    let members: Result<Vec<_>, _> = list.iter().map(der).collect();
+    Ok(members?.concat())
+}
+
+fn general_name(name: &GeneralName<'_>) -> Result<Vec<u8>, Error> {
+    let (kind, content) = match name {
         GeneralName::OtherName { type_id, value } => {
-            let value = element(context_elements(0), value);
-            elements(context_elements(0), [identifier(type_id), value])
+            return made(ffi::build::other_name(type_id.as_bytes(), value));
         }
-        GeneralName::Rfc822Name(text) => element(context(1), text.as_bytes()),
-        GeneralName::DnsName(text) => element(context(2), text.as_bytes()),
-        GeneralName::DirectoryName(name) => element(context_elements(4), name.as_der()),
-        GeneralName::EdiPartyName(fields) => element(context_elements(5), fields),
-        GeneralName::UniformResourceIdentifier(text) => element(context(6), text.as_bytes()),
-        GeneralName::IpAddress(octets) => element(context(7), octets),
-        GeneralName::RegisteredId(oid) => element(context(8), oid.as_bytes()),
-    }
+        GeneralName::Rfc822Name(text) => (ffi::GENERAL_NAME_EMAIL, text.as_bytes()),
+        GeneralName::DnsName(text) => (ffi::GENERAL_NAME_DNS, text.as_bytes()),
+        GeneralName::DirectoryName(name) => (ffi::GENERAL_NAME_DIRECTORY, name.as_der()),
+        GeneralName::EdiPartyName(fields) => (ffi::GENERAL_NAME_EDI_PARTY, *fields),
+        GeneralName::UniformResourceIdentifier(text) => (ffi::GENERAL_NAME_URI, text.as_bytes()),
+        GeneralName::IpAddress(octets) => (ffi::GENERAL_NAME_IP, *octets),
+        GeneralName::RegisteredId(oid) => (ffi::GENERAL_NAME_REGISTERED_ID, oid.as_bytes()),
+    };
+    made(ffi::build::general_name(kind, content))
 }
 
-fn general_names(identifier: u8, names: &[GeneralName<'_>]) -> Vec<u8> {
-    elements(identifier, names.iter().map(general_name))
+fn general_names(names: &[GeneralName<'_>]) -> Result<Vec<u8>, Error> {
+    made(ffi::build::general_names(&joined(names, general_name)?))
 }
 
-fn access(it: &AccessDescription<'_>) -> Vec<u8> {
-    let parts = [
-        identifier(&it.access_method),
-        general_name(&it.access_location),
-    ];
-    elements(SEQUENCE, parts)
+fn access(it: &AccessDescription<'_>) -> Result<Vec<u8>, Error> {
+    let location = general_name(&it.access_location)?;
+    made(ffi::build::access(it.access_method.as_bytes(), &location))
 }
 
-fn reasons(number: u8, reasons: ReasonFlags) -> Vec<u8> {
-    named_bits(context(number), reasons.bits())
-}
-
-fn point_name(name: &DistributionPointName<'_>) -> Vec<u8> {
+/// The DER of the full names of a point, one after the other, and that of its relative name; what it doesn't have is no bytes.
+fn point_name(name: Option<&DistributionPointName<'_>>) -> Result<(Vec<u8>, Vec<u8>), Error> {
     match name {
-        DistributionPointName::FullName(names) => elements(
-            context_elements(0),
-            [general_names(context_elements(0), names)],
-        ),
-        DistributionPointName::NameRelativeToCrlIssuer(name) => {
+        None => Ok((Vec::new(), Vec::new())),
+        Some(DistributionPointName::FullName(names)) => {
+            Ok((joined(names, general_name)?, Vec::new()))
+        }
+        // one that stood in a point has another tag than its own
+        Some(DistributionPointName::NameRelativeToCrlIssuer(name)) => {
             let behind = name.as_der().get(1..).unwrap_or_default();
-            let tagged = [&[context_elements(1)], behind].concat();
-            element(context_elements(0), &tagged)
+            Ok((Vec::new(), [&[SET], behind].concat()))
         }
     }
 }
 
-fn point(it: &DistributionPoint<'_>) -> Vec<u8> {
-    let name = it.distribution_point.as_ref().map(point_name);
-    let some = it.reasons.map(|of| reasons(1, of));
-    let issuer = it.crl_issuer.as_deref();
-    let issuer = issuer.map(|names| general_names(context_elements(2), names));
-    elements(SEQUENCE, name.into_iter().chain(some).chain(issuer))
+fn point(it: &DistributionPoint<'_>) -> Result<Vec<u8>, Error> {
+    let (full, relative) = point_name(it.distribution_point.as_ref())?;
+    let issuer = joined(it.crl_issuer.as_deref().unwrap_or_default(), general_name)?;
+    let reasons = it.reasons.map(ReasonFlags::bits);
+    made(ffi::build::distribution_point(
+        (&full, &relative),
+        reasons,
+        &issuer,
+    ))
 }
 
-fn subtree(it: &GeneralSubtree<'_>) -> Vec<u8> {
-    // the default of a minimum is 0
-    let minimum = (it.minimum != 0).then(|| integer(context(0), it.minimum));
-    let maximum = it.maximum.map(|number| integer(context(1), number));
-    let base = [general_name(&it.base)];
-    elements(SEQUENCE, base.into_iter().chain(minimum).chain(maximum))
+fn subtree(it: &GeneralSubtree<'_>) -> Result<Vec<u8>, Error> {
+    made(ffi::build::subtree(&general_name(&it.base)?))
 }
 
 fn qualifier(it: &PolicyQualifierInfo<'_>) -> Vec<u8> {

@@ -22,6 +22,179 @@ pub(crate) fn extension(oid: &[u8], critical: bool, value: &[u8]) -> Result<Vec<
     filled!(x509_extension_encode: [oid], (u32::from(critical)), [value])
 }
 
+/// A number that may be left out, as a call takes it: whether it is there, and what it is.
+fn told(number: Option<u32>) -> (u32, u32) {
+    (u32::from(number.is_some()), number.unwrap_or(0))
+}
+
+/// The DER of a KeyUsage.
+pub(crate) fn key_usage(uses: u32) -> Result<Vec<u8>, Error> {
+    filled!(x509_key_usage_encode: (uses))
+}
+
+/// The DER of a BasicConstraints.
+pub(crate) fn basic_constraints(ca: bool, path_len: Option<u32>) -> Result<Vec<u8>, Error> {
+    let (has_path_len, path_len) = told(path_len);
+    let view = BasicConstraintsView {
+        ca: u32::from(ca),
+        has_path_len,
+        path_len,
+    };
+    filled!(x509_basic_constraints_encode: (&view))
+}
+
+/// The DER of an ExtendedKeyUsage with purposes of these content octets.
+pub(crate) fn extended_key_usage<'a>(
+    oids: impl Iterator<Item = &'a [u8]> + Clone,
+) -> Result<Vec<u8>, Error> {
+    let lens: Vec<usize> = oids.clone().map(<[u8]>::len).collect();
+    let joined: Vec<u8> = oids.flatten().copied().collect();
+    filled!(x509_extended_key_usage_encode: [joined], [lens])
+}
+
+/// The DER of a SubjectKeyIdentifier.
+pub(crate) fn subject_key_identifier(octets: &[u8]) -> Result<Vec<u8>, Error> {
+    filled!(x509_subject_key_identifier_encode: [octets])
+}
+
+/// The DER of an AuthorityKeyIdentifier; the issuer is a whole GeneralNames, and the serial number a whole INTEGER, or there are none.
+pub(crate) fn authority_key_identifier(
+    key_identifier: Option<&[u8]>,
+    issuer: &[u8],
+    serial_number: &[u8],
+) -> Result<Vec<u8>, Error> {
+    let octets = key_identifier.unwrap_or_default();
+    filled!(x509_authority_key_identifier_encode: (u32::from(key_identifier.is_some())), [octets], [issuer], [serial_number])
+}
+
+/// The DER of a PolicyConstraints.
+pub(crate) fn policy_constraints(
+    require_explicit_policy: Option<u32>,
+    inhibit_policy_mapping: Option<u32>,
+) -> Result<Vec<u8>, Error> {
+    let (has_require_explicit_policy, require_explicit_policy) = told(require_explicit_policy);
+    let (has_inhibit_policy_mapping, inhibit_policy_mapping) = told(inhibit_policy_mapping);
+    let view = PolicyConstraintsView {
+        has_require_explicit_policy,
+        require_explicit_policy,
+        has_inhibit_policy_mapping,
+        inhibit_policy_mapping,
+    };
+    filled!(x509_policy_constraints_encode: (&view))
+}
+
+/// The DER of an InhibitAnyPolicy.
+pub(crate) fn inhibit_any_policy(certificates: u32) -> Result<Vec<u8>, Error> {
+    filled!(x509_inhibit_any_policy_encode: (certificates))
+}
+
+/// The DER of a CRLNumber, or of a BaseCRLNumber, of the octets of the number.
+pub(crate) fn crl_number(octets: &[u8]) -> Result<Vec<u8>, Error> {
+    filled!(x509_crl_number_encode: [octets])
+}
+
+/// The DER of a CRLReason.
+pub(crate) fn crl_reason(number: u32) -> Result<Vec<u8>, Error> {
+    filled!(x509_crl_reason_encode: (number))
+}
+
+/// The DER of an InvalidityDate, of seconds since 1970.
+pub(crate) fn invalidity_date(moment: u64) -> Result<Vec<u8>, Error> {
+    filled!(x509_invalidity_date_encode: (moment))
+}
+
+/// The DER of a PrivateKeyUsagePeriod, of seconds since 1970.
+pub(crate) fn private_key_usage_period(
+    not_before: Option<u64>,
+    not_after: Option<u64>,
+) -> Result<Vec<u8>, Error> {
+    let view = PrivateKeyUsagePeriodView {
+        has_not_before: u32::from(not_before.is_some()),
+        not_before: not_before.unwrap_or(0),
+        has_not_after: u32::from(not_after.is_some()),
+        not_after: not_after.unwrap_or(0),
+    };
+    filled!(x509_private_key_usage_period_encode: (&view))
+}
+
+/// The DER of a GeneralName of that kind that holds these octets.
+pub(crate) fn general_name(kind: u32, content: &[u8]) -> Result<Vec<u8>, Error> {
+    filled!(x509_general_name_encode: (kind), [content])
+}
+
+/// The DER of a GeneralName that is an otherName; the value is a whole element.
+pub(crate) fn other_name(type_id: &[u8], value: &[u8]) -> Result<Vec<u8>, Error> {
+    filled!(x509_other_name_encode: [type_id], [value])
+}
+
+/// The DER of a GeneralNames of the DER of its names.
+pub(crate) fn general_names(names: &[u8]) -> Result<Vec<u8>, Error> {
+    filled!(x509_general_names_encode: [names])
+}
+
+/// The DER of an AccessDescription; the location is a whole GeneralName.
+pub(crate) fn access(method: &[u8], location: &[u8]) -> Result<Vec<u8>, Error> {
+    filled!(x509_access_encode: [method], [location])
+}
+
+/// The DER of a list of AccessDescriptions of the DER of these.
+pub(crate) fn info_access(descriptions: &[u8]) -> Result<Vec<u8>, Error> {
+    filled!(x509_info_access_encode: [descriptions])
+}
+
+/// The DER of a GeneralSubtree; the base is a whole GeneralName.
+pub(crate) fn subtree(base: &[u8]) -> Result<Vec<u8>, Error> {
+    filled!(x509_subtree_encode: [base])
+}
+
+/// The DER of a NameConstraints of the DER of its subtrees.
+pub(crate) fn name_constraints(permitted: &[u8], excluded: &[u8]) -> Result<Vec<u8>, Error> {
+    filled!(x509_name_constraints_encode: [permitted], [excluded])
+}
+
+/// The DER of a DistributionPoint, of the DER of its full names or of its relative name, and of the DER of the names of the issuer.
+pub(crate) fn distribution_point(
+    (full_name, relative_name): (&[u8], &[u8]),
+    reasons: Option<u32>,
+    crl_issuer: &[u8],
+) -> Result<Vec<u8>, Error> {
+    let (has_reasons, reasons) = told(reasons);
+    filled!(x509_distribution_point_encode: [full_name], [relative_name], (has_reasons), (reasons), [crl_issuer])
+}
+
+/// The DER of a list of DistributionPoints of the DER of these.
+pub(crate) fn distribution_points(points: &[u8]) -> Result<Vec<u8>, Error> {
+    filled!(x509_distribution_points_encode: [points])
+}
+
+/// What an IssuingDistributionPoint says beside its name.
+pub(crate) struct IssuingScope {
+    pub(crate) only_contains_user_certs: bool,
+    pub(crate) only_contains_ca_certs: bool,
+    pub(crate) only_some_reasons: Option<u32>,
+    pub(crate) indirect_crl: bool,
+    pub(crate) only_contains_attribute_certs: bool,
+}
+
+/// The DER of an IssuingDistributionPoint, of the DER of its full names or of its relative name.
+pub(crate) fn issuing_distribution_point(
+    (full_name, relative_name): (&[u8], &[u8]),
+    scope: &IssuingScope,
+) -> Result<Vec<u8>, Error> {
+    let (has_only_some_reasons, only_some_reasons) = told(scope.only_some_reasons);
+    let view = IssuingDistributionPointView {
+        full_name: Span::default(),
+        relative_name: Span::default(),
+        only_contains_user_certs: u32::from(scope.only_contains_user_certs),
+        only_contains_ca_certs: u32::from(scope.only_contains_ca_certs),
+        has_only_some_reasons,
+        only_some_reasons,
+        indirect_crl: u32::from(scope.indirect_crl),
+        only_contains_attribute_certs: u32::from(scope.only_contains_attribute_certs),
+    };
+    filled!(x509_issuing_distribution_point_encode: (&view), [full_name], [relative_name])
+}
+
 /// The DER of an entry of a CRL; the serial number is a whole INTEGER.
 pub(crate) fn crl_entry(
     serial_number: &[u8],

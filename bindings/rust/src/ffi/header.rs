@@ -754,6 +754,177 @@ extern "C" {
         room: usize,
         written: *mut usize,
     ) -> c_int;
+    /// Writes a BasicConstraints (RFC 5280 4.2.1.9). X509_VALUE also for a path length above 255, or where there is one and `ca` is 0. It takes no memory.
+    pub(super) fn x509_basic_constraints_encode(
+        view: *const BasicConstraintsView,
+        out: *mut u8,
+        room: usize,
+        written: *mut usize,
+    ) -> c_int;
+    pub(super) fn x509_key_usage_encode(
+        uses: u32,
+        out: *mut u8,
+        room: usize,
+        written: *mut usize,
+    ) -> c_int;
+    pub(super) fn x509_extended_key_usage_encode(
+        oids: *const u8,
+        oids_len: usize,
+        lens: *const usize,
+        count: usize,
+        out: *mut u8,
+        room: usize,
+        written: *mut usize,
+    ) -> c_int;
+    /// Writes a SubjectKeyIdentifier (4.2.1.2) of these octets, of which there may be none.
+    pub(super) fn x509_subject_key_identifier_encode(
+        identifier: *const u8,
+        len: usize,
+        out: *mut u8,
+        room: usize,
+        written: *mut usize,
+    ) -> c_int;
+    pub(super) fn x509_authority_key_identifier_encode(
+        has_key_identifier: u32,
+        key_identifier: *const u8,
+        key_identifier_len: usize,
+        issuer: *const u8,
+        issuer_len: usize,
+        serial_number: *const u8,
+        serial_number_len: usize,
+        out: *mut u8,
+        room: usize,
+        written: *mut usize,
+    ) -> c_int;
+    /// Writes a PolicyConstraints (4.2.1.11). X509_VALUE also where neither number is there. It takes no memory.
+    pub(super) fn x509_policy_constraints_encode(
+        view: *const PolicyConstraintsView,
+        out: *mut u8,
+        room: usize,
+        written: *mut usize,
+    ) -> c_int;
+    /// Writes an InhibitAnyPolicy (4.2.1.14) of any number of certificates. It takes no memory.
+    pub(super) fn x509_inhibit_any_policy_encode(
+        certificates: u32,
+        out: *mut u8,
+        room: usize,
+        written: *mut usize,
+    ) -> c_int;
+    pub(super) fn x509_crl_number_encode(
+        number: *const u8,
+        len: usize,
+        out: *mut u8,
+        room: usize,
+        written: *mut usize,
+    ) -> c_int;
+    /// Writes the reason code of an entry of a CRL (5.3.1) with this number. X509_VALUE for one that isn't 0 to 6 or 8 to 10. It takes no memory.
+    pub(super) fn x509_crl_reason_encode(
+        reason: u32,
+        out: *mut u8,
+        room: usize,
+        written: *mut usize,
+    ) -> c_int;
+    /// Writes the invalidity date of an entry of a CRL (5.3.2), in seconds since 1970-01-01T00:00:00Z. X509_VALUE after the year 9999. It takes no memory.
+    pub(super) fn x509_invalidity_date_encode(
+        moment: u64,
+        out: *mut u8,
+        room: usize,
+        written: *mut usize,
+    ) -> c_int;
+    pub(super) fn x509_private_key_usage_period_encode(
+        view: *const PrivateKeyUsagePeriodView,
+        out: *mut u8,
+        room: usize,
+        written: *mut usize,
+    ) -> c_int;
+    pub(super) fn x509_general_name_encode(
+        kind: u32,
+        content: *const u8,
+        len: usize,
+        out: *mut u8,
+        room: usize,
+        written: *mut usize,
+    ) -> c_int;
+    /// Writes a GeneralName that is an otherName: of the type with an OID of these content octets, and with this value, a whole element.
+    pub(super) fn x509_other_name_encode(
+        type_id: *const u8,
+        type_id_len: usize,
+        value: *const u8,
+        value_len: usize,
+        out: *mut u8,
+        room: usize,
+        written: *mut usize,
+    ) -> c_int;
+    pub(super) fn x509_general_names_encode(
+        names: *const u8,
+        len: usize,
+        out: *mut u8,
+        room: usize,
+        written: *mut usize,
+    ) -> c_int;
+    /// Writes an AccessDescription (4.2.2.1): by the method with an OID of these content octets, at this location, a whole GeneralName.
+    pub(super) fn x509_access_encode(
+        method: *const u8,
+        method_len: usize,
+        location: *const u8,
+        location_len: usize,
+        out: *mut u8,
+        room: usize,
+        written: *mut usize,
+    ) -> c_int;
+    pub(super) fn x509_info_access_encode(
+        descriptions: *const u8,
+        len: usize,
+        out: *mut u8,
+        room: usize,
+        written: *mut usize,
+    ) -> c_int;
+    pub(super) fn x509_subtree_encode(
+        base: *const u8,
+        len: usize,
+        out: *mut u8,
+        room: usize,
+        written: *mut usize,
+    ) -> c_int;
+    pub(super) fn x509_name_constraints_encode(
+        permitted: *const u8,
+        permitted_len: usize,
+        excluded: *const u8,
+        excluded_len: usize,
+        out: *mut u8,
+        room: usize,
+        written: *mut usize,
+    ) -> c_int;
+    pub(super) fn x509_distribution_point_encode(
+        full_name: *const u8,
+        full_name_len: usize,
+        relative_name: *const u8,
+        relative_name_len: usize,
+        has_reasons: u32,
+        reasons: u32,
+        crl_issuer: *const u8,
+        crl_issuer_len: usize,
+        out: *mut u8,
+        room: usize,
+        written: *mut usize,
+    ) -> c_int;
+    pub(super) fn x509_distribution_points_encode(
+        points: *const u8,
+        len: usize,
+        out: *mut u8,
+        room: usize,
+        written: *mut usize,
+    ) -> c_int;
+    pub(super) fn x509_issuing_distribution_point_encode(
+        view: *const IssuingDistributionPointView,
+        full_name: *const u8,
+        full_name_len: usize,
+        relative_name: *const u8,
+        relative_name_len: usize,
+        out: *mut u8,
+        room: usize,
+        written: *mut usize,
+    ) -> c_int;
     pub(super) fn x509_name_next(
         name: *const u8,
         len: usize,
@@ -786,6 +957,13 @@ extern "C" {
         b: *const u8,
         b_len: usize,
         matches: *mut u32,
+    ) -> c_int;
+    pub(super) fn x509_names_equal(
+        a: *const u8,
+        a_len: usize,
+        b: *const u8,
+        b_len: usize,
+        equal: *mut u32,
     ) -> c_int;
     pub(super) fn x509_attribute_encode(
         oid: *const u8,

@@ -1,10 +1,10 @@
 //! The bytes to be signed of a CSR.
 
-ghost use Rattle.std.specs.Prelude.{◌≡◌, ◌⊎◌, MatchResult};
+ghost use Rattle.std.specs.Prelude.{◌≡◌, ◌⊎◌, ◌↔◌, IsTrue, MatchResult};
 ghost use Rattle.x509_build.specs.RequestParts.{next_part};
 ghost use Rattle.x509_c_calls.specs.Refusals.{Finalizes, FinalizesTo};
 ghost use Rattle.x509_c_calls.specs.Status.{Fills};
-ghost use Rattle.x509_c_calls.specs.Requests.{AreRequestInputs, BuildsRequest, IsSetOf, RefusesRequestInputs, RefusesSet};
+ghost use Rattle.x509_c_calls.specs.Requests.{AreRequestInputs, Ask, BuildsRequest, IsSetOf, RefusesRequestInputs, RefusesSet};
 ghost use Rattle.x509_c_calls.specs.Built.{FillsUnrepeated};
 ghost use Rattle.x509_cert.specs.CertReq.{cert_req_info};
 ghost use Rattle.x509_der.specs.declared.error.ErrorKind.TheVariants.{Memory};
@@ -18,7 +18,8 @@ use x509_base::SubjectPublicKeyInfo;
 use x509_build::Error;
 use x509_build::profile::no_algorithm;
 use x509_build::request::RequestBuilder;
-use x509_der::ErrorKind;
+use x509_cert::request::ExtensionReq;
+use x509_der::{AssociatedOid, ErrorKind};
 use x509_ext::{Extension, Extensions};
 use x509_name::attr::{Attribute, Attributes};
 use x509_name::name::Name;
@@ -32,11 +33,23 @@ struct RequestInputs {
     extensions: Vec<Extension>,
 }
 
+/// Whether one of the attributes asks for extensions (RFC 2985 5.4.2).
+fn ask(attributes: &[Attribute]) -> bool
+    ensures { IsTrue result ↔ Ask attributes.now }
+{
+    attributes
+        .iter()
+        .any(|attribute| attribute.oid == ExtensionReq::OID)
+}
+
 /// The set of the attributes whose encodings the bytes are, one after the other.
 fn read_set(alloc: Global, bytes: &[u8]) -> Result<Attributes, ErrorKind>
     ensures { MatchResult result (λ set. IsSetOf bytes.now set) (λ e. (e ≡ Memory) ⊎ RefusesSet bytes.now e) }
 {
     let attributes = read_each::<Attribute>(alloc, bytes)?;
+    if ask(attributes.as_slice()) {
+        return Err(ErrorKind::SetDuplicate);
+    }
     match Attributes::try_from_vec(attributes) {
         Ok(set) => Ok(set),
         Err(e) => Err(e.kind()),
@@ -111,9 +124,8 @@ fn fill_part(alloc: Global, inputs: RequestInputs, room: &mut [u8], written: &mu
 /// # Errors
 ///
 /// [`Status::NoRoom`] where the buffer is too small; then `written` is the needed length. The error of decoding an input; where several are bad,
-/// any of theirs; `SetDuplicate` among them where two attributes are equal. Else [`Status::Repeated`] exactly where two of the extensions have one
-/// OID; then nothing is written. `SetDuplicate` where one of the attributes is that which asks for the extensions. `Overlength` where the part is too
-/// long. `Memory` when out of memory.
+/// any of theirs; `SetDuplicate` among them where two attributes are equal, or one asks for extensions. Else [`Status::Repeated`] exactly where two of
+/// the extensions have one OID; then nothing is written. `Overlength` where the part is too long. `Memory` when out of memory.
 pub fn build_request(
     alloc: Global,
     subject: &[u8],
