@@ -86,9 +86,9 @@ def lines():
 
 
 def names(text, call):
-    """Whether a function's body has a call of that name, of a method with any value or type in front."""
+    """Whether a function's body has a call of that name, of a method with any value or type in front, of another function with its crate or nothing."""
     of, _, name = call.rpartition("::")
-    return re.search(rf"{r'(?:::|[.])' if of else r'(?<![.:])'}\b{name}(?:::<[^()]*>)?\(", text) is not None
+    return re.search(rf"{r'(?:::|[.])' if of else r'(?:(?<![.:])|x509_[a-z_]+::)'}\b{name}(?:::<[^()]*>)?\(", text) is not None
 
 
 def is_run(function, others):

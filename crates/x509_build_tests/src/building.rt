@@ -45,24 +45,37 @@ const NO_KEY: &str = "public key error: Refused";
 
 const UNSIGNED: &str = "signature error: Refused";
 
+/// Whether each builder signs so, or is refused with the text; that of a CRL with the last one.
+fn are_signed(
+    rt: &HostRuntime,
+    refuses: Refused,
+    with_rng: bool,
+    text: &str,
+    of_list: &str,
+) -> bool {
+    let certificate = built(rt, certificates::plain(rt), refuses, with_rng);
+    let request = built(rt, requests::builder(rt), refuses, with_rng);
+    let list = built(rt, lists::builder(rt), refuses, with_rng);
+    let answers = [
+        is_answer(rt, certificate, certificates::SIGNED, text),
+        is_answer(rt, request, requests::SIGNED, text),
+        is_answer(rt, list, lists::SIGNED, of_list),
+    ];
+    answers == [true; 3]
+}
+
 /// A CRL doesn't hold the signer's key, so the signer isn't asked for that.
 #[test]
 fn with_each_signer(rt: HostRuntime) {
-    for (refuses, with_rng, text, of_list) in [
-        (Refused::Nothing, false, "", ""),
-        (Refused::Nothing, true, "", ""),
-        (Refused::Algorithm, false, NO_KEY, NO_KEY),
-        (Refused::Key, false, NO_KEY, ""),
-        (Refused::Message, false, UNSIGNED, UNSIGNED),
-        (Refused::Message, true, UNSIGNED, UNSIGNED),
-    ] {
-        let certificate = built(&rt, certificates::plain(&rt), refuses, with_rng);
-        assert!(rt; is_answer(&rt, certificate, certificates::SIGNED, text));
-        let request = built(&rt, requests::builder(&rt), refuses, with_rng);
-        assert!(rt; is_answer(&rt, request, requests::SIGNED, text));
-        let list = built(&rt, lists::builder(&rt), refuses, with_rng);
-        assert!(rt; is_answer(&rt, list, lists::SIGNED, of_list));
-    }
+    let answers = [
+        are_signed(&rt, Refused::Nothing, false, "", ""),
+        are_signed(&rt, Refused::Nothing, true, "", ""),
+        are_signed(&rt, Refused::Algorithm, false, NO_KEY, NO_KEY),
+        are_signed(&rt, Refused::Key, false, NO_KEY, ""),
+        are_signed(&rt, Refused::Message, false, UNSIGNED, UNSIGNED),
+        are_signed(&rt, Refused::Message, true, UNSIGNED, UNSIGNED),
+    ];
+    assert!(rt; answers == [true; 6]);
 }
 
 #[test]

@@ -27,5 +27,3 @@ mod servers;
 mod signers;
 #[cfg(test)]
 mod source;
-#[cfg(test)]
-mod values;

@@ -115,17 +115,23 @@ fn part(rt: &HostRuntime, issuer: &[u8], second: u64) -> Result<Vec<u8>> {
 
 #[test]
 fn the_keys_of_issuers(rt: HostRuntime) {
-    for (issuer, wanted, text) in [
-        (ISSUER, LIST, ""),
-        (NAMED_ISSUER, NAMED, ""),
-        (TWICE_NAMED_ISSUER, NAMED, "ASN.1 error: Failed"),
-        (BADLY_NAMED_ISSUER, NAMED, "ASN.1 error: Malformed"),
-    ] {
-        assert!(rt;
-            is_answer(&rt, part(&rt, issuer, NOW), wanted, text),
-            "assertion failed at {text}"
-        );
-    }
+    let answers = [
+        is_answer(&rt, part(&rt, ISSUER, NOW), LIST, ""),
+        is_answer(&rt, part(&rt, NAMED_ISSUER, NOW), NAMED, ""),
+        is_answer(
+            &rt,
+            part(&rt, TWICE_NAMED_ISSUER, NOW),
+            &[],
+            "ASN.1 error: Failed",
+        ),
+        is_answer(
+            &rt,
+            part(&rt, BADLY_NAMED_ISSUER, NOW),
+            &[],
+            "ASN.1 error: Malformed",
+        ),
+    ];
+    assert!(rt; answers == [true; 4]);
 }
 
 /// 9999-12-31T23:59:59Z, the last second that a GeneralizedTime can say.

@@ -19,7 +19,7 @@ pub(crate) const WHOLE: &[u8] =
 const DIGEST: &[u8] = &[0x3F, 0x15, 0x28, 0x83, 0x6F, 0x06, 0x84, 0x5A];
 
 /// A certificate with a date of 2002 that RFC 5280 spells otherwise (4.1.2.5).
-pub(crate) const LONG: &[u8] = b"\x30\x48\x30\x3C\x02\x01\x01\x30\x05\x06\x03\x2A\x03\x04\x30\x00\
+const LONG: &[u8] = b"\x30\x48\x30\x3C\x02\x01\x01\x30\x05\x06\x03\x2A\x03\x04\x30\x00\
       \x30\x20\x18\x0F20020101120100Z\x17\x0D301231083000Z\x30\x00\x30\x0A\x30\x05\x06\x03\x2A\x03\x04\x03\x01\x00\
       \x30\x05\x06\x03\x2A\x03\x04\x03\x01\x00";
 
@@ -41,20 +41,26 @@ fn has_unique_ids(part: &TbsCertificate) -> bool {
     }
 }
 
+/// Whether the digest of the certificate begins so.
+fn has_digest(rt: &HostRuntime, certificate: &Certificate) -> bool {
+    match certificate.hash::<Sha256>(rt.alloc()) {
+        Ok(digest) => digest.as_slice().starts_with(DIGEST),
+        Err(_) => false,
+    }
+}
+
 /// Fields of the same type are told apart.
 #[test]
 fn fields(rt: HostRuntime) -> Result<(), Fail> {
     let certificate = Certificate::from_der(rt.alloc(), WHOLE)?;
     let part = certificate.tbs_certificate();
-    assert!(rt; is_name(&rt, part.issuer(), &WHOLE[20..35]));
-    assert!(rt; is_name(&rt, part.subject(), &WHOLE[67..82]));
-    assert!(rt; has_unique_ids(part));
-    assert!(rt;
-        certificate
-            .hash::<Sha256>(rt.alloc())?
-            .as_slice()
-            .starts_with(DIGEST)
-    );
+    let answers = [
+        is_name(&rt, part.issuer(), &WHOLE[20..35]),
+        is_name(&rt, part.subject(), &WHOLE[67..82]),
+        has_unique_ids(part),
+        has_digest(&rt, &certificate),
+    ];
+    assert!(rt; answers == [true; 4]);
     Ok(())
 }
 

@@ -46,26 +46,6 @@ const OF_SECOND: &[u8] = b"\x30\x11\xA4\x0F\x30\x0D\x31\x0B\x30\x09\x06\x03\x55\
 const OF_FOURTH: &[u8] =
     b"\x30\x14\x82\x01a\xA4\x0F\x30\x0D\x31\x0B\x30\x09\x06\x03\x55\x04\x06\x13\x02US";
 
-/// At which index the issuer is named by what.
-const ISSUERS: [(usize, Option<&[u8]>); 5] = [
-    (0, None),
-    (1, Some(OF_SECOND)),
-    (2, Some(OF_SECOND)),
-    (3, Some(OF_FOURTH)),
-    (4, Some(OF_FOURTH)),
-];
-
-/// Which name and number are those of the entry at which index.
-const ENTRIES: [(&[u8], u8, Option<usize>); 7] = [
-    (NOBODY, 5, Some(0)),
-    (NOBODY, 6, None),
-    (DE, 6, Some(1)),
-    (DE, 5, Some(2)),
-    (US, 5, Some(3)),
-    (US, 6, None),
-    (DE, 7, None),
-];
-
 /// Whether the issuer at the index is named so.
 fn is_named(
     rt: &HostRuntime,
@@ -99,6 +79,11 @@ fn is_found(
     Ok(found == wanted)
 }
 
+/// Whether that holds.
+fn holds(answer: Result<bool, Error>) -> bool {
+    matches!(answer, Ok(true))
+}
+
 /// Whether it is refused so.
 fn is_refused(answer: Result<bool, Error>, kind: ErrorKind) -> bool {
     match answer {
@@ -107,44 +92,48 @@ fn is_refused(answer: Result<bool, Error>, kind: ErrorKind) -> bool {
     }
 }
 
+/// At each index the issuer is named by that of an entry up to there; and which entry is of which issuer and number.
 #[test]
-fn named(rt: HostRuntime) -> Result<(), Fail> {
+fn named_and_found(rt: HostRuntime) -> Result<(), Fail> {
     let list = CertificateList::from_der(rt.alloc(), LIST)?;
-    for (index, names) in ISSUERS {
-        assert!(rt; is_named(&rt, &list, index, names)?);
-    }
+    let named = [
+        holds(is_named(&rt, &list, 0, None)),
+        holds(is_named(&rt, &list, 1, Some(OF_SECOND))),
+        holds(is_named(&rt, &list, 2, Some(OF_SECOND))),
+        holds(is_named(&rt, &list, 3, Some(OF_FOURTH))),
+        holds(is_named(&rt, &list, 4, Some(OF_FOURTH))),
+    ];
+    let found = [
+        holds(is_found(&rt, &list, NOBODY, 5, Some(0))),
+        holds(is_found(&rt, &list, NOBODY, 6, None)),
+        holds(is_found(&rt, &list, DE, 6, Some(1))),
+        holds(is_found(&rt, &list, DE, 5, Some(2))),
+        holds(is_found(&rt, &list, US, 5, Some(3))),
+        holds(is_found(&rt, &list, US, 6, None)),
+        holds(is_found(&rt, &list, DE, 7, None)),
+    ];
+    assert!(rt; named == [true; 5]);
+    assert!(rt; found == [true; 7]);
     Ok(())
 }
 
-#[test]
-fn found(rt: HostRuntime) -> Result<(), Fail> {
-    let list = CertificateList::from_der(rt.alloc(), LIST)?;
-    for (issuer, number, index) in ENTRIES {
-        assert!(rt; is_found(&rt, &list, issuer, number, index)?);
-    }
-    Ok(())
-}
-
-/// Whether the first entry is found, whose issuer is that of the list.
-fn has_first(rt: &HostRuntime, list: &CertificateList) -> Result<bool, Error> {
-    Ok(is_named(rt, list, 0, None)? && is_found(rt, list, NOBODY, 5, Some(0))?)
-}
-
-/// Whether what is refused so stands in the way of what is behind it alone.
-fn is_in_the_way(rt: &HostRuntime, list: &CertificateList, kind: ErrorKind) -> Result<bool, Error> {
-    Ok(
-        has_first(rt, list)?
-            && is_refused(is_named(rt, list, 1, None), kind)
-            && is_refused(is_found(rt, list, NOBODY, 6, None), kind),
-    )
+/// Whether what is refused so stands in the way of what is behind it alone: the first entry, whose issuer is that of the list, is found.
+fn is_in_the_way(rt: &HostRuntime, bytes: &[u8], kind: ErrorKind) -> bool {
+    let Ok(list) = CertificateList::from_der(rt.alloc(), bytes) else {
+        return false;
+    };
+    let answers = [
+        holds(is_named(rt, &list, 0, None)),
+        holds(is_found(rt, &list, NOBODY, 5, Some(0))),
+        is_refused(is_named(rt, &list, 1, None), kind),
+        is_refused(is_found(rt, &list, NOBODY, 6, None), kind),
+    ];
+    answers == [true; 4]
 }
 
 /// A NULL in the place of names, and names twice.
 #[test]
-fn refused(rt: HostRuntime) -> Result<(), Fail> {
-    let null = CertificateList::from_der(rt.alloc(), REFUSED)?;
-    assert!(rt; is_in_the_way(&rt, &null, ErrorKind::Malformed)?);
-    let twice = CertificateList::from_der(rt.alloc(), REPEATED)?;
-    assert!(rt; is_in_the_way(&rt, &twice, ErrorKind::Failed)?);
-    Ok(())
+fn refused(rt: HostRuntime) {
+    assert!(rt; is_in_the_way(&rt, REFUSED, ErrorKind::Malformed));
+    assert!(rt; is_in_the_way(&rt, REPEATED, ErrorKind::Failed));
 }

@@ -4,8 +4,6 @@
 #[cfg(test)]
 mod certificate;
 #[cfg(test)]
-mod constraints;
-#[cfg(test)]
 mod copies;
 #[cfg(test)]
 mod digests;
@@ -24,18 +22,10 @@ mod look_ups;
 #[cfg(test)]
 mod matching;
 #[cfg(test)]
-mod path_checks;
-#[cfg(test)]
 mod paths;
 #[cfg(test)]
 mod program;
 #[cfg(test)]
-mod purposes;
-#[cfg(test)]
 mod requests;
 #[cfg(test)]
-mod slices;
-#[cfg(test)]
 mod trust_anchors;
-#[cfg(test)]
-mod validations;

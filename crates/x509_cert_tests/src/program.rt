@@ -1,26 +1,25 @@
 //! Runs of the program over readers and writers that may fail, and its words.
 
 use crate::fakes::{FakeEnv, FakeReader, FakeWriter, Lapse};
-use std::alloc::{AllocError, Global};
+use std::alloc::Global;
 use std::io;
 use std::test::*;
 use x509_der::ErrorKind;
 use x509_tool_run::{Refusal, run, words};
 use x509_types::Types;
 
-/// The program's arguments, what is read and what goes wrong, and the status and the text that the run ends with.
-type Run = (
-    &'static [&'static [u8]],
-    &'static [u8],
-    Lapse,
-    u8,
-    &'static [u8],
-);
-
-/// Whether the run ends so.
-fn ends(alloc: Global, case: &Run) -> Result<bool, AllocError> {
-    let (arguments, bytes, lapse, status, text) = *case;
-    let words = words(alloc, &FakeEnv { arguments })?;
+/// Whether the run of the program with these arguments, over what is read and what goes wrong, ends with the status and the text.
+fn ends(
+    alloc: Global,
+    arguments: &[&[u8]],
+    bytes: &[u8],
+    lapse: Lapse,
+    status: u8,
+    text: &[u8],
+) -> bool {
+    let Ok(words) = words(alloc, &FakeEnv { arguments }) else {
+        return false;
+    };
     let mut reader = FakeReader {
         bytes,
         reads: 0,
@@ -37,17 +36,12 @@ fn ends(alloc: Global, case: &Run) -> Result<bool, AllocError> {
         &mut reader,
         &mut writer,
     );
-    Ok(ended == status && writer.taken.as_slice() == text)
+    ended == status && writer.taken.as_slice() == text
 }
 
-/// The place of the first of these runs that ends otherwise.
-fn first_wrong(alloc: Global, runs: &[Run]) -> Result<Option<usize>, AllocError> {
-    for (place, case) in runs.iter().enumerate() {
-        if !ends(alloc, case)? {
-            return Ok(Some(place));
-        }
-    }
-    Ok(None)
+/// The same where nothing goes wrong.
+fn says(alloc: Global, arguments: &[&[u8]], bytes: &[u8], status: u8, text: &[u8]) -> bool {
+    ends(alloc, arguments, bytes, Lapse::Never, status, text)
 }
 
 const USAGE: &[u8] =
@@ -99,54 +93,30 @@ const OTHER_WORDS: &[&[u8]] = &[b"x509_tool", b"encode-name", b"raw"];
 
 const NO_WORDS: &[&[u8]] = &[b"x509_tool"];
 
-const COMMANDS: &[Run] = &[
-    (OID, b"060355040a", Lapse::Never, 0, b"060355040A\n"),
-    (VALIDITY, LONG, Lapse::Never, 0, SHORT),
-    (RAW, LONG, Lapse::Never, 0, LONG),
-    (OID, b"", Lapse::Never, 1, b"refused: Malformed\n"),
-    (
-        OID,
-        b"0603550406\r\n",
-        Lapse::Never,
-        1,
-        b"refused: Failed\n",
-    ),
-    (NAME, BYTES, Lapse::Never, 0, TEXT),
-    (NAME, b"3000\n\n", Lapse::Never, 1, b"refused: Failed\n"),
-    (ENCODE_NAME, TEXT, Lapse::Never, 0, BYTES),
-    (
-        ENCODE_NAME,
-        b"CN=A+CN=A",
-        Lapse::Never,
-        1,
-        b"refused: SetDuplicate\n",
-    ),
-    (
-        ENCODE_NAME,
-        b"CN=\xFF",
-        Lapse::Never,
-        1,
-        b"refused: Failed\n",
-    ),
-    (PATH, SIGNED, Lapse::Never, 0, b"ok\n"),
-    (PATH, UNSIGNED, Lapse::Never, 1, b"fault 0 Signature\n"),
-    (PATH, ANCHOR, Lapse::Never, 1, b"refused: Failed\n"),
-    (PATH, b"3000 3000", Lapse::Never, 1, b"refused: Malformed\n"),
-    (
-        PATH_AT_NO_MOMENT,
-        SIGNED,
-        Lapse::Never,
-        1,
-        b"refused: Failed\n",
-    ),
-    (OTHER_WORDS, TEXT, Lapse::Never, 2, USAGE),
-    (NO_WORDS, b"", Lapse::Never, 2, USAGE),
-];
-
 #[test]
-fn commands(rt: HostRuntime) -> Result<(), Fail> {
-    assert_eq!(rt; first_wrong(rt.alloc(), COMMANDS)?, None);
-    Ok(())
+fn commands(rt: HostRuntime) {
+    let alloc = rt.alloc();
+    let answers = [
+        says(alloc, OID, b"060355040a", 0, b"060355040A\n"),
+        says(alloc, VALIDITY, LONG, 0, SHORT),
+        says(alloc, RAW, LONG, 0, LONG),
+        says(alloc, OID, b"", 1, b"refused: Malformed\n"),
+        says(alloc, OID, b"0603550406\r\n", 1, b"refused: Failed\n"),
+        says(alloc, NAME, BYTES, 0, TEXT),
+        says(alloc, NAME, b"3000\n\n", 1, b"refused: Failed\n"),
+        says(alloc, ENCODE_NAME, TEXT, 0, BYTES),
+        says(
+            alloc,
+            ENCODE_NAME,
+            b"CN=A+CN=A",
+            1,
+            b"refused: SetDuplicate\n",
+        ),
+        says(alloc, ENCODE_NAME, b"CN=\xFF", 1, b"refused: Failed\n"),
+        says(alloc, OTHER_WORDS, TEXT, 2, USAGE),
+        says(alloc, NO_WORDS, b"", 2, USAGE),
+    ];
+    assert!(rt; answers == [true; 12]);
 }
 
 const PATH_ANY: &[&[u8]] = &[
@@ -199,41 +169,38 @@ const PEM_OF_SPOILT_BASE64: &[u8] = b"-----BEGIN A-----\nMAA=\n-----END A-----\n
 const PEM_IN_DER: &[u8] = b"\x0C\x7F\n-----BEGIN A-----\nMAA=\n-----END A-----\n\
       -----BEGIN A-----\nMAA=\n-----END A-----\n";
 
-/// Paths whose signatures aren't looked at, and paths in PEM.
-const PATHS: &[Run] = &[
-    (PATH_ANY, UNSIGNED, Lapse::Never, 0, b"ok\n"),
-    (PATH_ANY, PEM, Lapse::Never, 0, b"ok\n"),
-    (PATH_ANY, PEM_IN_OTHER_LINES, Lapse::Never, 0, b"ok\n"),
-    (PATH, PEM, Lapse::Never, 1, b"fault 0 Signature\n"),
-    (
-        PATH_ANY,
-        PEM_WITHOUT_END,
-        Lapse::Never,
-        1,
-        b"refused: Failed\n",
-    ),
-    (
-        PATH_ANY,
-        PEM_WITH_ANOTHER_LABEL,
-        Lapse::Never,
-        1,
-        b"refused: Failed\n",
-    ),
-    (
-        PATH_ANY,
-        PEM_OF_SPOILT_BASE64,
-        Lapse::Never,
-        1,
-        b"refused: Failed\n",
-    ),
-    (PATH_ANY, PEM_IN_DER, Lapse::Never, 1, b"refused: Failed\n"),
-    (PATH_OTHER, PEM, Lapse::Never, 2, USAGE),
-];
-
 #[test]
-fn paths(rt: HostRuntime) -> Result<(), Fail> {
-    assert_eq!(rt; first_wrong(rt.alloc(), PATHS)?, None);
-    Ok(())
+fn paths(rt: HostRuntime) {
+    let alloc = rt.alloc();
+    let answers = [
+        says(alloc, PATH, SIGNED, 0, b"ok\n"),
+        says(alloc, PATH, UNSIGNED, 1, b"fault 0 Signature\n"),
+        says(alloc, PATH, ANCHOR, 1, b"refused: Failed\n"),
+        says(alloc, PATH, b"3000 3000", 1, b"refused: Malformed\n"),
+        says(alloc, PATH_AT_NO_MOMENT, SIGNED, 1, b"refused: Failed\n"),
+        says(alloc, PATH_ANY, UNSIGNED, 0, b"ok\n"),
+        says(alloc, PATH_ANY, PEM, 0, b"ok\n"),
+        says(alloc, PATH_ANY, PEM_IN_OTHER_LINES, 0, b"ok\n"),
+        says(alloc, PATH, PEM, 1, b"fault 0 Signature\n"),
+        says(alloc, PATH_ANY, PEM_WITHOUT_END, 1, b"refused: Failed\n"),
+        says(
+            alloc,
+            PATH_ANY,
+            PEM_WITH_ANOTHER_LABEL,
+            1,
+            b"refused: Failed\n",
+        ),
+        says(
+            alloc,
+            PATH_ANY,
+            PEM_OF_SPOILT_BASE64,
+            1,
+            b"refused: Failed\n",
+        ),
+        says(alloc, PATH_ANY, PEM_IN_DER, 1, b"refused: Failed\n"),
+        says(alloc, PATH_OTHER, PEM, 2, USAGE),
+    ];
+    assert!(rt; answers == [true; 14]);
 }
 
 /// What a refusal is called, where no run above says it.
@@ -253,63 +220,79 @@ const OTHER: io::ErrorKind = io::ErrorKind::Other;
 
 const INTERRUPTED: io::ErrorKind = io::ErrorKind::Interrupted;
 
-/// Ten bytes, and reads that fail at the first of them, in their midst and at their end.
-const READS: &[Run] = &[
-    (
-        OID,
-        b"0603550406",
-        Lapse::Read(1, OTHER),
-        1,
-        b"refused: Read\n",
-    ),
-    (
-        OID,
-        b"0603550406",
-        Lapse::Read(6, INTERRUPTED),
-        1,
-        b"refused: Read\n",
-    ),
-    (
-        OID,
-        b"0603550406",
-        Lapse::Read(11, OTHER),
-        1,
-        b"refused: Read\n",
-    ),
-];
-
 /// The first read that fails ends the reading.
 #[test]
-fn a_failing_reader(rt: HostRuntime) -> Result<(), Fail> {
-    assert_eq!(rt; first_wrong(rt.alloc(), READS)?, None);
-    Ok(())
+fn a_failing_reader(rt: HostRuntime) {
+    let alloc = rt.alloc();
+    let answers = [
+        ends(
+            alloc,
+            OID,
+            b"0603550406",
+            Lapse::Read(1, OTHER),
+            1,
+            b"refused: Read\n",
+        ),
+        ends(
+            alloc,
+            OID,
+            b"0603550406",
+            Lapse::Read(6, INTERRUPTED),
+            1,
+            b"refused: Read\n",
+        ),
+        ends(
+            alloc,
+            OID,
+            b"0603550406",
+            Lapse::Read(11, OTHER),
+            1,
+            b"refused: Read\n",
+        ),
+    ];
+    assert!(rt; answers == [true; 3]);
 }
-
-const WRITES: &[Run] = &[
-    (OID, b"0603550406", Lapse::Write(1, Some(OTHER)), 1, b""),
-    (
-        OID,
-        b"0603550406",
-        Lapse::Write(5, Some(INTERRUPTED)),
-        1,
-        b"0603",
-    ),
-    (OID, b"0603550406", Lapse::Write(11, None), 1, b"0603550406"),
-    (OID, b"03", Lapse::Write(9, None), 1, b"refused:"),
-    (
-        OTHER_WORDS,
-        b"03",
-        Lapse::Write(6, Some(OTHER)),
-        1,
-        b"usage",
-    ),
-];
 
 /// The first write that fails or takes nothing ends the run.
 #[test]
-fn a_failing_writer(rt: HostRuntime) -> Result<(), Fail> {
-    assert_eq!(rt; first_wrong(rt.alloc(), WRITES)?, None);
-    Ok(())
+fn a_failing_writer(rt: HostRuntime) {
+    let alloc = rt.alloc();
+    let answers = [
+        ends(
+            alloc,
+            OID,
+            b"0603550406",
+            Lapse::Write(1, Some(OTHER)),
+            1,
+            b"",
+        ),
+        ends(
+            alloc,
+            OID,
+            b"0603550406",
+            Lapse::Write(5, Some(INTERRUPTED)),
+            1,
+            b"0603",
+        ),
+        ends(
+            alloc,
+            OID,
+            b"0603550406",
+            Lapse::Write(11, None),
+            1,
+            b"0603550406",
+        ),
+        ends(alloc, OID, b"03", Lapse::Write(9, None), 1, b"refused:"),
+        ends(
+            alloc,
+            OTHER_WORDS,
+            b"03",
+            Lapse::Write(6, Some(OTHER)),
+            1,
+            b"usage",
+        ),
+    ];
+    assert!(rt; answers == [true; 5]);
 }
 
 /// An argument that needs more space than the first, and one that just fits.

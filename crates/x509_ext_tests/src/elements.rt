@@ -6,33 +6,41 @@ use x509_der::{
     Any, AnyRef, Bytes, Error, ErrorKind, Length, SequenceOf, Tag, TagNumber, take_element,
 };
 
-/// The universal types with their identifier octets (X.680 8.4, X.690 8.1.2).
-const UNIVERSAL: [(u8, Tag); 24] = [
-    (0x01, Tag::Boolean),
-    (0x02, Tag::Integer),
-    (0x03, Tag::BitString),
-    (0x04, Tag::OctetString),
-    (0x05, Tag::Null),
-    (0x06, Tag::ObjectIdentifier),
-    (0x09, Tag::Real),
-    (0x0A, Tag::Enumerated),
-    (0x0C, Tag::Utf8String),
-    (0x0D, Tag::RelativeOid),
-    (0x12, Tag::NumericString),
-    (0x13, Tag::PrintableString),
-    (0x14, Tag::TeletexString),
-    (0x15, Tag::VideotexString),
-    (0x16, Tag::Ia5String),
-    (0x17, Tag::UtcTime),
-    (0x18, Tag::GeneralizedTime),
-    (0x19, Tag::GraphicString),
-    (0x1A, Tag::VisibleString),
-    (0x1B, Tag::GeneralString),
-    (0x1C, Tag::UniversalString),
-    (0x1E, Tag::BmpString),
-    (0x30, Tag::Sequence),
-    (0x31, Tag::Set),
+/// The identifier octets of the universal types (X.680 8.4, X.690 8.1.2).
+const UNIVERSAL: [u8; 24] = [
+    0x01, 0x02, 0x03, 0x04, 0x05, 0x06, 0x09, 0x0A, 0x0C, 0x0D, 0x12, 0x13, 0x14, 0x15, 0x16, 0x17,
+    0x18, 0x19, 0x1A, 0x1B, 0x1C, 0x1E, 0x30, 0x31,
 ];
+
+/// The same, as the types have them.
+fn universal() -> [u8; 24] {
+    [
+        Tag::Boolean.octet(),
+        Tag::Integer.octet(),
+        Tag::BitString.octet(),
+        Tag::OctetString.octet(),
+        Tag::Null.octet(),
+        Tag::ObjectIdentifier.octet(),
+        Tag::Real.octet(),
+        Tag::Enumerated.octet(),
+        Tag::Utf8String.octet(),
+        Tag::RelativeOid.octet(),
+        Tag::NumericString.octet(),
+        Tag::PrintableString.octet(),
+        Tag::TeletexString.octet(),
+        Tag::VideotexString.octet(),
+        Tag::Ia5String.octet(),
+        Tag::UtcTime.octet(),
+        Tag::GeneralizedTime.octet(),
+        Tag::GraphicString.octet(),
+        Tag::VisibleString.octet(),
+        Tag::GeneralString.octet(),
+        Tag::UniversalString.octet(),
+        Tag::BmpString.octet(),
+        Tag::Sequence.octet(),
+        Tag::Set.octet(),
+    ]
+}
 
 /// Whether the constructed tags with that number, of the application and of its own, have these octets.
 fn are_octets(number: u8, application: u8, private: u8) -> bool {
@@ -59,33 +67,42 @@ fn is_taken(bytes: &[u8], wanted: Result<AnyRef<'_>, Error>, left: &[u8]) -> boo
     }
 }
 
-/// Texts of errors, tags, and an element that is taken.
+/// Whether the kind prints the text, and so does its error.
+fn is_called(rt: &HostRuntime, kind: ErrorKind, text: &str) -> bool {
+    is_printed(rt, &kind, text) && is_printed(rt, &Error::from(kind), text)
+}
+
+/// Texts of errors.
 #[test]
-fn errors_and_elements(rt: HostRuntime) {
-    for (kind, text) in [
-        (ErrorKind::Memory, "Memory"),
-        (ErrorKind::Overlength, "Overlength"),
-        (ErrorKind::Malformed, "Malformed"),
-        (ErrorKind::Failed, "Failed"),
-        (ErrorKind::SetDuplicate, "SetDuplicate"),
-        (ErrorKind::Value, "Value"),
-    ] {
-        assert!(rt; is_printed(&rt, &kind, text) && is_printed(&rt, &Error::from(kind), text));
-    }
+fn errors(rt: HostRuntime) {
     let malformed = Error::from(ErrorKind::Malformed);
-    assert!(rt;
+    let answers = [
+        is_called(&rt, ErrorKind::Memory, "Memory"),
+        is_called(&rt, ErrorKind::Overlength, "Overlength"),
+        is_called(&rt, ErrorKind::Malformed, "Malformed"),
+        is_called(&rt, ErrorKind::Failed, "Failed"),
+        is_called(&rt, ErrorKind::SetDuplicate, "SetDuplicate"),
+        is_called(&rt, ErrorKind::Value, "Value"),
         shows(
             &rt,
             Ok::<Error, Error>(malformed),
-            "Error { kind: Malformed }"
-        )
-    );
-    for (octet, tag) in UNIVERSAL {
-        assert!(rt; tag.octet() == octet);
-    }
-    assert!(rt; are_octets(3, 0x63, 0xE3) && Length::ZERO.as_u32() == 0);
+            "Error { kind: Malformed }",
+        ),
+    ];
+    assert!(rt; answers == [true; 7]);
+}
+
+/// Tags, and an element that is taken.
+#[test]
+fn tags(rt: HostRuntime) {
     let country = AnyRef::new(Tag::ObjectIdentifier, b"\x55\x04\x06");
-    assert!(rt; is_taken(b"\x06\x03\x55\x04\x06\x05\x00", country, b"\x05\x00"));
+    let answers = [
+        universal() == UNIVERSAL,
+        are_octets(3, 0x63, 0xE3),
+        Length::ZERO.as_u32() == 0,
+        is_taken(b"\x06\x03\x55\x04\x06\x05\x00", country, b"\x05\x00"),
+    ];
+    assert!(rt; answers == [true; 4]);
 }
 
 /// Whether the octets are owned and given back.
@@ -139,19 +156,20 @@ fn is_seen(made: Result<SequenceOf<u8>, Error>) -> bool {
 /// Octets, elements out of which values are read, and lists.
 #[test]
 fn owned(rt: HostRuntime) {
-    assert!(rt; are_owned(&rt, &[0x01, 0xFF]) && are_owned(&rt, &[0x01; 25]));
-    assert!(rt;
+    let answers = [
+        are_owned(&rt, &[0x01, 0xFF]),
+        are_owned(&rt, &[0x01; 25]),
         shows(
             &rt,
             Bytes::from_slice(rt.alloc(), &[0x01, 0xFF]),
-            "[1, 255]"
-        ) && stays::<Any>(&rt, &[2, 1, 5])
-            && holds(&rt, Any::new(rt.alloc(), Tag::Integer, &[5]), 5)
-    );
-    assert!(rt;
-        holds(&rt, from_octets(&rt, &[2, 1, 5]), 5)
-            && shows(&rt, seven_and_five(&rt), "[7, 5]")
-            && is_seen(seven_and_five(&rt))
-    );
-    assert!(rt; stays::<SequenceOf<u8>>(&rt, &[0x30, 6, 2, 1, 7, 2, 1, 5]));
+            "[1, 255]",
+        ),
+        stays::<Any>(&rt, &[2, 1, 5]),
+        holds(&rt, Any::new(rt.alloc(), Tag::Integer, &[5]), 5),
+        holds(&rt, from_octets(&rt, &[2, 1, 5]), 5),
+        shows(&rt, seven_and_five(&rt), "[7, 5]"),
+        is_seen(seven_and_five(&rt)),
+        stays::<SequenceOf<u8>>(&rt, &[0x30, 6, 2, 1, 7, 2, 1, 5]),
+    ];
+    assert!(rt; answers == [true; 9]);
 }

@@ -22,42 +22,38 @@ fn answers(usage: KeyUsage) -> [bool; 9] {
     ]
 }
 
-/// Whether the answer at that place alone is yes.
-fn is_alone(answers: [bool; 9], place: usize) -> bool {
-    for (at, answer) in answers.iter().enumerate() {
-        if *answer != (at == place) {
-            return false;
+/// The first named bit, with no other of which the predicates say otherwise than that it alone is set; 9 if there is none.
+fn first_wrong() -> usize {
+    for bit in 0..9_usize {
+        let mut alone = [false; 9];
+        alone[bit] = true;
+        if answers(KeyUsage(KeyUsages::from_bits_retain(1 << bit))) != alone {
+            return bit;
         }
     }
-    true
+    9
 }
 
-/// Whether the bytes are those of the one use, which is the named bit with that number.
-fn is_use(rt: &HostRuntime, bytes: &[u8], flag: KeyUsages, bit: usize) -> bool {
-    match KeyUsage::from_der(rt.alloc(), bytes) {
-        Ok(usage) => usage == KeyUsage(flag) && is_alone(answers(usage), bit),
-        Err(_) => false,
-    }
+/// The bits of the uses (RFC 5280 4.2.1.3), the named bit 0 first.
+fn bits() -> [u16; 9] {
+    [
+        KeyUsages::DIGITAL_SIGNATURE.bits(),
+        KeyUsages::NON_REPUDIATION.bits(),
+        KeyUsages::KEY_ENCIPHERMENT.bits(),
+        KeyUsages::DATA_ENCIPHERMENT.bits(),
+        KeyUsages::KEY_AGREEMENT.bits(),
+        KeyUsages::KEY_CERT_SIGN.bits(),
+        KeyUsages::CRL_SIGN.bits(),
+        KeyUsages::ENCIPHER_ONLY.bits(),
+        KeyUsages::DECIPHER_ONLY.bits(),
+    ]
 }
 
-/// Each use, with the bit string of its bit alone (RFC 5280 4.2.1.3). The flags that are set are given in the order of their bits, each with its name.
+/// Each use. The flags that are set are given in the order of their bits, each with its name.
 #[test]
 fn usages(rt: HostRuntime) {
-    assert!(rt;
-        is_use(&rt, b"\x03\x02\x07\x80", KeyUsages::DIGITAL_SIGNATURE, 0)
-            && is_use(&rt, b"\x03\x02\x06\x40", KeyUsages::NON_REPUDIATION, 1)
-            && is_use(&rt, b"\x03\x02\x05\x20", KeyUsages::KEY_ENCIPHERMENT, 2)
-    );
-    assert!(rt;
-        is_use(&rt, b"\x03\x02\x04\x10", KeyUsages::DATA_ENCIPHERMENT, 3)
-            && is_use(&rt, b"\x03\x02\x03\x08", KeyUsages::KEY_AGREEMENT, 4)
-            && is_use(&rt, b"\x03\x02\x02\x04", KeyUsages::KEY_CERT_SIGN, 5)
-    );
-    assert!(rt;
-        is_use(&rt, b"\x03\x02\x01\x02", KeyUsages::CRL_SIGN, 6)
-            && is_use(&rt, b"\x03\x02\x00\x01", KeyUsages::ENCIPHER_ONLY, 7)
-            && is_use(&rt, b"\x03\x03\x07\x00\x80", KeyUsages::DECIPHER_ONLY, 8)
-    );
+    assert!(rt; first_wrong() == 9);
+    assert!(rt; bits() == [1, 2, 4, 8, 16, 32, 64, 128, 256]);
     let mut uses = (KeyUsages::CRL_SIGN | KeyUsages::DIGITAL_SIGNATURE).iter_names();
     assert!(rt;
         uses.next() == Some(("DIGITAL_SIGNATURE", KeyUsages::DIGITAL_SIGNATURE))

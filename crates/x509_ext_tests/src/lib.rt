@@ -11,8 +11,6 @@ mod elements;
 #[cfg(test)]
 mod extensions;
 #[cfg(test)]
-mod fields;
-#[cfg(test)]
 mod general_names;
 #[cfg(test)]
 mod identifiers;

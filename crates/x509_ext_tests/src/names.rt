@@ -5,9 +5,7 @@ use std::test::*;
 use x509_der::{Error, ErrorKind, SequenceOf};
 use x509_name::attr::AttributeTypeAndValue;
 use x509_name::attr::attribute_types::ORGANIZATIONAL_UNIT_NAME;
-use x509_name::name::{
-    DirectoryString, Name, RdnSequence, RdnSequenceIter, RelativeDistinguishedName,
-};
+use x509_name::name::{DirectoryString, Name, RdnSequence, RelativeDistinguishedName};
 use x509_prim::{Alphabet, RestrictedStringRef, Utf8StringRef};
 
 /// The organization 123 and the common name JOHN SMITH, in this order since the first is shorter.
@@ -61,25 +59,17 @@ fn are_in_order(rt: &HostRuntime, below: &str, above: &str) -> bool {
     }
 }
 
-/// Whether the RDN says before its first attribute that it has so many.
-fn has_attributes(rdn: &RelativeDistinguishedName, count: usize) -> bool {
-    rdn.iter().size_hint() == (count, Some(count))
-}
-
-/// Whether the iterator says that so many RDNs are left.
-fn has_left(rdns: &RdnSequenceIter<'_>, count: usize) -> bool {
-    rdns.size_hint() == (count, Some(count))
-}
-
 /// Whether the name has two RDNs, the first of so many attributes, and its iterators say so.
 fn has_two(name: &Name, attributes: usize) -> bool {
     let mut rdns = name.iter_rdn();
-    let is_whole = has_left(&rdns, 2);
-    let is_first = match rdns.next() {
-        Some(first) => has_attributes(first, attributes),
-        None => false,
+    let whole = rdns.size_hint();
+    let first = match rdns.next() {
+        Some(first) => first.iter().size_hint(),
+        None => (0, None),
     };
-    is_whole && is_first && has_left(&rdns, 1)
+    whole == (2, Some(2))
+        && first == (attributes, Some(attributes))
+        && rdns.size_hint() == (1, Some(1))
 }
 
 /// The same of the name of the text.
@@ -117,20 +107,6 @@ fn is_unit(rt: &HostRuntime, name: &Name, text: &str) -> bool {
     }
 }
 
-/// Whether these are the state, the locality and the organization.
-fn is_in(rt: &HostRuntime, name: &Name, state: &str, locality: &str, of: &str) -> bool {
-    is_text(name.state_or_province(rt.alloc()), state)
-        && is_text(name.locality(rt.alloc()), locality)
-        && is_text(name.organization(rt.alloc()), of)
-}
-
-/// Whether these are the first unit, in each way, and the common name.
-fn is_of(rt: &HostRuntime, name: &Name, unit: &str, common: &str) -> bool {
-    is_text(name.organization_unit(rt.alloc()), unit)
-        && is_unit(rt, name, unit)
-        && is_text(name.common_name(rt.alloc()), common)
-}
-
 /// Whether there is a string with the text, lent.
 fn is_lent<A: Alphabet>(
     found: Result<Option<RestrictedStringRef<'_, A>>, Error>,
@@ -144,13 +120,21 @@ fn is_lent<A: Alphabet>(
 
 /// Whether all is found in the name of the text.
 fn is_found(rt: &HostRuntime, text: &str) -> bool {
-    let Ok(name) = Name::from_str(rt.alloc(), text) else {
+    let alloc = rt.alloc();
+    let Ok(name) = Name::from_str(alloc, text) else {
         return false;
     };
-    is_in(rt, &name, "Ohio", "Rome", "123")
-        && is_of(rt, &name, "CA", "John")
-        && is_lent(name.country(rt.alloc()), "US")
-        && is_lent(name.email_address(rt.alloc()), "a@b.c")
+    let answers = [
+        is_text(name.state_or_province(alloc), "Ohio"),
+        is_text(name.locality(alloc), "Rome"),
+        is_text(name.organization(alloc), "123"),
+        is_text(name.organization_unit(alloc), "CA"),
+        is_unit(rt, &name, "CA"),
+        is_text(name.common_name(alloc), "John"),
+        is_lent(name.country(alloc), "US"),
+        is_lent(name.email_address(alloc), "a@b.c"),
+    ];
+    answers == [true; 8]
 }
 
 /// Whether it is refused, as the value is no text.
@@ -158,24 +142,20 @@ fn is_no_text(found: Result<Option<DirectoryString>, Error>) -> bool {
     is_refused(found, ErrorKind::Malformed)
 }
 
-/// Whether the unit and the common name are refused.
-fn are_of_no_text(rt: &HostRuntime, name: &Name) -> bool {
-    is_no_text(name.organization_unit(rt.alloc())) && is_no_text(name.common_name(rt.alloc()))
-}
-
-/// Whether the state, the locality and the organization are refused.
-fn are_in_no_text(rt: &HostRuntime, name: &Name) -> bool {
-    is_no_text(name.state_or_province(rt.alloc()))
-        && is_no_text(name.locality(rt.alloc()))
-        && is_no_text(name.organization(rt.alloc()))
-}
-
 /// Whether each of the five is refused in the name of the text.
 fn are_no_texts(rt: &HostRuntime, text: &str) -> bool {
-    match Name::from_str(rt.alloc(), text) {
-        Ok(name) => are_of_no_text(rt, &name) && are_in_no_text(rt, &name),
-        Err(_) => false,
-    }
+    let alloc = rt.alloc();
+    let Ok(name) = Name::from_str(alloc, text) else {
+        return false;
+    };
+    let answers = [
+        is_no_text(name.organization_unit(alloc)),
+        is_no_text(name.common_name(alloc)),
+        is_no_text(name.state_or_province(alloc)),
+        is_no_text(name.locality(alloc)),
+        is_no_text(name.organization(alloc)),
+    ];
+    answers == [true; 5]
 }
 
 #[test]

@@ -98,33 +98,6 @@ fn is_first(rt: &HostRuntime, bytes: &[u8], time: &str) -> bool {
     }
 }
 
-/// The timestamp, parsed and serialized again.
-fn serialized_again(rt: &HostRuntime, item: &SerializedSct) -> Result<SerializedSct, Error> {
-    let timestamp = item.parse_timestamp(rt.alloc())?;
-    Ok(SerializedSct::new(rt.alloc(), timestamp)?)
-}
-
-/// The timestamps of the list, parsed and serialized again.
-fn parsed_again(
-    rt: &HostRuntime,
-    list: &SignedCertificateTimestampList,
-) -> Result<Vec<SerializedSct>, Error> {
-    let mut again = Vec::new(rt.alloc());
-    for item in &list.parse_timestamps(rt.alloc())? {
-        again
-            .push(serialized_again(rt, item)?)
-            .map_err(TlsError::from)?;
-    }
-    Ok(again)
-}
-
-/// The list of the same timestamps.
-fn made_again(rt: &HostRuntime, bytes: &[u8]) -> Result<SignedCertificateTimestampList, Error> {
-    let list = SignedCertificateTimestampList::from_der(rt.alloc(), bytes)?;
-    let again = parsed_again(rt, &list)?;
-    SignedCertificateTimestampList::new(rt.alloc(), again.as_slice())
-}
-
 /// The extension of no timestamps: the identifier, no word on its criticality, and the list within an OCTET STRING (RFC 6962 section 3.3).
 const EXTENSION: &[u8] =
     b"\x30\x12\x06\x0A\x2B\x06\x01\x04\x01\xD6\x79\x02\x04\x02\x04\x04\x04\x02\x00\x00";
@@ -139,12 +112,12 @@ fn is_extension(rt: &HostRuntime) -> bool {
 
 #[test]
 fn lists(rt: HostRuntime) {
-    assert!(rt;
-        gives(&rt, list_with(&rt, 0), &ONE)
-            && is_first(&rt, &ONE, "2023-05-03T06:26:46Z")
-            && gives(&rt, made_again(&rt, &TWO), &TWO)
-    );
-    assert!(rt; is_extension(&rt));
+    let answers = [
+        gives(&rt, list_with(&rt, 0), &ONE),
+        is_first(&rt, &ONE, "2023-05-03T06:26:46Z"),
+        is_extension(&rt),
+    ];
+    assert!(rt; answers == [true; 3]);
 }
 
 /// Whether the value is serialized to the bytes.
@@ -207,21 +180,18 @@ const NO_VERSION: &[u8] = b"\x04\x05\x00\x03\x00\x01\x41";
 /// off, that go on, or would be too long, and a timestamp of no version.
 #[test]
 fn refusals(rt: HostRuntime) {
-    assert!(rt;
-        is_spoilt(&rt, 6, 1, TlsError::UnknownValue(1))
-            && is_spoilt(&rt, 49, 7, TlsError::UnknownValue(7))
-            && is_spoilt(&rt, 50, 9, TlsError::UnknownValue(9))
-    );
-    assert!(rt;
-        is_spoilt(&rt, 52, 4, TlsError::EndOfStream)
-            && is_no_list(&rt, &[0, 1, 0], TlsError::EndOfStream)
-            && is_no_list(&rt, &[0, 0, 0], TlsError::TrailingData)
-    );
-    assert!(rt;
-        is_fault(first_of(&rt, NO_VERSION), TlsError::UnknownValue(65))
-            && is_fault(list_with(&rt, 65_535), TlsError::InvalidVectorLength)
-            && is_fault(list_with(&rt, 65_484), TlsError::InvalidVectorLength)
-    );
+    let answers = [
+        is_spoilt(&rt, 6, 1, TlsError::UnknownValue(1)),
+        is_spoilt(&rt, 49, 7, TlsError::UnknownValue(7)),
+        is_spoilt(&rt, 50, 9, TlsError::UnknownValue(9)),
+        is_spoilt(&rt, 52, 4, TlsError::EndOfStream),
+        is_no_list(&rt, &[0, 1, 0], TlsError::EndOfStream),
+        is_no_list(&rt, &[0, 0, 0], TlsError::TrailingData),
+        is_fault(first_of(&rt, NO_VERSION), TlsError::UnknownValue(65)),
+        is_fault(list_with(&rt, 65_535), TlsError::InvalidVectorLength),
+        is_fault(list_with(&rt, 65_484), TlsError::InvalidVectorLength),
+    ];
+    assert!(rt; answers == [true; 9]);
 }
 
 /// What a log signs of the timestamp in [`ONE`], with that many octets of extensions, for that entry.

@@ -1,4 +1,4 @@
-//! Tests of what logs sign, and of their entries.
+//! Tests of what logs sign, of their entries and of their trees.
 #![tactic(auto)]
 
 #[cfg(test)]
@@ -7,4 +7,7 @@ mod cuts;
 mod embedded;
 #[cfg(test)]
 mod entries;
+#[cfg(test)]
 mod reissued;
+#[cfg(test)]
+mod trees;

@@ -1,4 +1,4 @@
-//! Paths of certificates, and which fault is found first.
+//! Paths of certificates, and which fault is found first: by [`check_path`] and by [`validate_path`].
 
 use std::alloc::{AllocError, Global};
 use std::str::FromStr;
@@ -6,11 +6,12 @@ use std::test::*;
 use x509_base::{AlgorithmIdentifier, DateTime, SubjectPublicKeyInfo};
 use x509_cert::Certificate;
 use x509_der::Decode;
-use x509_path::{Anchor, PathFault, PathReason, Verifier, check_path};
+use x509_path::{Anchor, AnchorRef, PathFault, PathReason, Verifier, check_path};
 use x509_prim::BitString;
+use x509_validation::{PathSettings, Trusted, ValidationFault, ValidationReason, validate_path};
 
 /// Takes a message for its own signature.
-pub(crate) struct Echo;
+struct Echo;
 
 impl Verifier for Echo {
     ghost use Rattle.std.specs.Prelude.{◌&&◌, ◌==◌, bytes_eq};
@@ -37,43 +38,93 @@ fn copies(alloc: Global, inputs: &[&[u8]]) -> Result<Vec<Vec<u8>>, AllocError> {
     Ok(copies)
 }
 
-/// A second of the validity of each certificate here.
-pub(crate) const IN_DATE: &str = "2020-01-01T00:00:00Z";
+/// A second of the validity of each certificate here, and the first second behind it.
+const IN_DATE: &str = "2020-01-01T00:00:00Z";
 
-/// The first second behind it.
-pub(crate) const OUT_OF_DATE: &str = "2030-12-31T08:30:01Z";
+const OUT_OF_DATE: &str = "2030-12-31T08:30:01Z";
 
 /// What is answered at that time of these certificates, under the name and the key of [`LEAF`].
-fn checked(alloc: Global, path: &[&[u8]], moment: &str) -> Result<Result<(), PathFault>, Fail> {
-    let certificate = Certificate::from_der(alloc, LEAF)?;
-    let anchor = Anchor::from_certificate(alloc, &certificate)?;
-    let moment = DateTime::from_str(moment)?;
-    let path = copies(alloc, path)?;
-    Ok(check_path(alloc, &anchor, path.as_slice(), moment, &Echo))
+fn checked(alloc: Global, path: &[&[u8]], moment: &str) -> Option<Result<(), PathFault>> {
+    let Ok(certificate) = Certificate::from_der(alloc, LEAF) else {
+        return None;
+    };
+    let Ok(anchor) = Anchor::from_certificate(alloc, &certificate) else {
+        return None;
+    };
+    let Ok(moment) = DateTime::from_str(moment) else {
+        return None;
+    };
+    match copies(alloc, path) {
+        Ok(path) => Some(check_path(alloc, &anchor, path.as_slice(), moment, &Echo)),
+        Err(_) => None,
+    }
 }
 
-/// Whether that is the fault at a place, in date.
-fn has(alloc: Global, path: &[&[u8]], place: usize, reason: PathReason) -> Result<bool, Fail> {
-    Ok(checked(alloc, path, IN_DATE)? == Err(PathFault::At { place, reason }))
+/// What is asked at that time.
+fn asked<'a>(moment: &str) -> PathSettings<'a> {
+    match DateTime::from_str(moment) {
+        Ok(moment) => PathSettings::new(moment),
+        Err(_) => PathSettings::new(DateTime::INFINITY),
+    }
+}
+
+/// What is answered where the path is validated.
+fn validated<'a>(
+    alloc: Global,
+    path: &[&'a [u8]],
+    settings: &PathSettings<'a>,
+) -> Result<(), ValidationFault> {
+    match validate_path(alloc, &Trusted::new(ANCHOR), path, settings, &Echo) {
+        Ok(_) => Ok(()),
+        Err(e) => Err(e),
+    }
+}
+
+/// The name and the key of [`LEAF`].
+const ANCHOR: AnchorRef<'static> = AnchorRef {
+    name: b"\x30\x00",
+    key: b"\x30\x0A\x30\x05\x06\x03\x2A\x03\x04\x03\x01\x00",
+};
+
+/// Whether nothing is wrong with the path, in date.
+fn holds(alloc: Global, path: &[&[u8]]) -> bool {
+    checked(alloc, path, IN_DATE) == Some(Ok(())) && validated(alloc, path, &asked(IN_DATE)).is_ok()
+}
+
+/// Whether these are the faults at the place, in date.
+fn has(
+    alloc: Global,
+    path: &[&[u8]],
+    place: usize,
+    one: PathReason,
+    other: ValidationReason,
+) -> bool {
+    let fault = PathFault::At { place, reason: one };
+    let validation_fault = ValidationFault::At {
+        place,
+        reason: other,
+    };
+    checked(alloc, path, IN_DATE) == Some(Err(fault))
+        && validated(alloc, path, &asked(IN_DATE)) == Err(validation_fault)
 }
 
 /// Without extensions. Its name and that of its issuer are empty, as those of all certificates here but those of [`LIMITED`]'s path, and its bits
 /// are the signed part.
-pub(crate) const LEAF: &[u8] =
+const LEAF: &[u8] =
     b"\x30\x81\x8C\x30\x3F\xA0\x03\x02\x01\x02\x02\x01\x01\x30\x05\x06\x03\x2A\x03\x04\x30\x00\x30\x1E\
       \x17\x0D100101083000Z\x17\x0D301231083000Z\x30\x00\x30\x0A\x30\x05\x06\x03\x2A\x03\x04\x03\x01\x00\x30\x05\
       \x06\x03\x2A\x03\x04\x03\x42\x00\x30\x3F\xA0\x03\x02\x01\x02\x02\x01\x01\x30\x05\x06\x03\x2A\x03\x04\x30\x00\
       \x30\x1E\x17\x0D100101083000Z\x17\x0D301231083000Z\x30\x00\x30\x0A\x30\x05\x06\x03\x2A\x03\x04\x03\x01\x00";
 
 /// The algorithm 1.2.3.4 within and 1.2.3.5 outside.
-pub(crate) const TWO_ALGORITHMS: &[u8] =
+const TWO_ALGORITHMS: &[u8] =
     b"\x30\x81\x8C\x30\x3F\xA0\x03\x02\x01\x02\x02\x01\x01\x30\x05\x06\x03\x2A\x03\x04\x30\x00\x30\x1E\
       \x17\x0D100101083000Z\x17\x0D301231083000Z\x30\x00\x30\x0A\x30\x05\x06\x03\x2A\x03\x04\x03\x01\x00\x30\x05\
       \x06\x03\x2A\x03\x05\x03\x42\x00\x30\x3F\xA0\x03\x02\x01\x02\x02\x01\x01\x30\x05\x06\x03\x2A\x03\x04\x30\x00\
       \x30\x1E\x17\x0D100101083000Z\x17\x0D301231083000Z\x30\x00\x30\x0A\x30\x05\x06\x03\x2A\x03\x04\x03\x01\x00";
 
 /// The issuer `CN=x`.
-pub(crate) const OTHER_ISSUER: &[u8] =
+const OTHER_ISSUER: &[u8] =
     b"\x30\x81\xA4\x30\x4B\xA0\x03\x02\x01\x02\x02\x01\x01\x30\x05\x06\x03\x2A\x03\x04\x30\x0C\x31\x0A\x30\x08\
       \x06\x03\x55\x04\x03\x0C\x01x\x30\x1E\x17\x0D100101083000Z\x17\x0D301231083000Z\x30\x00\x30\x0A\x30\x05\
       \x06\x03\x2A\x03\x04\x03\x01\x00\x30\x05\x06\x03\x2A\x03\x04\x03\x4E\x00\x30\x4B\xA0\x03\x02\x01\x02\x02\x01\x01\
@@ -81,13 +132,13 @@ pub(crate) const OTHER_ISSUER: &[u8] =
       \x17\x0D301231083000Z\x30\x00\x30\x0A\x30\x05\x06\x03\x2A\x03\x04\x03\x01\x00";
 
 /// No bits as signature.
-pub(crate) const UNSIGNED: &[u8] =
+const UNSIGNED: &[u8] =
     b"\x30\x4B\x30\x3F\xA0\x03\x02\x01\x02\x02\x01\x01\x30\x05\x06\x03\x2A\x03\x04\x30\x00\x30\x1E\
       \x17\x0D100101083000Z\x17\x0D301231083000Z\x30\x00\x30\x0A\x30\x05\x06\x03\x2A\x03\x04\x03\x01\x00\x30\x05\
       \x06\x03\x2A\x03\x04\x03\x01\x00";
 
 /// The extension 2.5.29.14 twice.
-pub(crate) const REPEATED: &[u8] =
+const REPEATED: &[u8] =
     b"\x30\x81\xC0\x30\x59\xA0\x03\x02\x01\x02\x02\x01\x01\x30\x05\x06\x03\x2A\x03\x04\x30\x00\x30\x1E\
       \x17\x0D100101083000Z\x17\x0D301231083000Z\x30\x00\x30\x0A\x30\x05\x06\x03\x2A\x03\x04\x03\x01\x00\xA3\x18\
       \x30\x16\x30\x09\x06\x03\x55\x1D\x0E\x04\x02\x04\x00\x30\x09\x06\x03\x55\x1D\x0E\x04\x02\x04\x00\x30\x05\
@@ -96,7 +147,7 @@ pub(crate) const REPEATED: &[u8] =
       \xA3\x18\x30\x16\x30\x09\x06\x03\x55\x1D\x0E\x04\x02\x04\x00\x30\x09\x06\x03\x55\x1D\x0E\x04\x02\x04\x00";
 
 /// A critical extension 2.5.29.14.
-pub(crate) const CRITICAL: &[u8] =
+const CRITICAL: &[u8] =
     b"\x30\x81\xB0\x30\x51\xA0\x03\x02\x01\x02\x02\x01\x01\x30\x05\x06\x03\x2A\x03\x04\x30\x00\x30\x1E\
       \x17\x0D100101083000Z\x17\x0D301231083000Z\x30\x00\x30\x0A\x30\x05\x06\x03\x2A\x03\x04\x03\x01\x00\xA3\x10\
       \x30\x0E\x30\x0C\x06\x03\x55\x1D\x0E\x01\x01\xFF\x04\x02\x04\x00\x30\x05\x06\x03\x2A\x03\x04\x03\x54\x00\x30\x51\
@@ -124,7 +175,7 @@ const REPEATED_AND_CRITICAL: &[u8] =
       \x06\x03\x55\x1D\x0E\x01\x01\xFF\x04\x02\x04\x00";
 
 /// A certification authority's, whose KeyUsage is digitalSignature alone.
-pub(crate) const NO_KEY_CERT_SIGN: &[u8] =
+const NO_KEY_CERT_SIGN: &[u8] =
     b"\x30\x81\xD6\x30\x64\xA0\x03\x02\x01\x02\x02\x01\x01\x30\x05\x06\x03\x2A\x03\x04\x30\x00\x30\x1E\
       \x17\x0D100101083000Z\x17\x0D301231083000Z\x30\x00\x30\x0A\x30\x05\x06\x03\x2A\x03\x04\x03\x01\x00\xA3\x23\
       \x30\x21\x30\x0F\x06\x03\x55\x1D\x13\x01\x01\xFF\x04\x05\x30\x03\x01\x01\xFF\x30\x0E\x06\x03\x55\x1D\x0F\
@@ -134,7 +185,7 @@ pub(crate) const NO_KEY_CERT_SIGN: &[u8] =
       \x04\x05\x30\x03\x01\x01\xFF\x30\x0E\x06\x03\x55\x1D\x0F\x01\x01\xFF\x04\x04\x03\x02\x07\x80";
 
 /// A certification authority's, whose KeyUsage is keyCertSign.
-pub(crate) const AUTHORITY: &[u8] =
+const AUTHORITY: &[u8] =
     b"\x30\x81\xD6\x30\x64\xA0\x03\x02\x01\x02\x02\x01\x01\x30\x05\x06\x03\x2A\x03\x04\x30\x00\x30\x1E\
       \x17\x0D100101083000Z\x17\x0D301231083000Z\x30\x00\x30\x0A\x30\x05\x06\x03\x2A\x03\x04\x03\x01\x00\xA3\x23\
       \x30\x21\x30\x0F\x06\x03\x55\x1D\x13\x01\x01\xFF\x04\x05\x30\x03\x01\x01\xFF\x30\x0E\x06\x03\x55\x1D\x0F\
@@ -144,7 +195,7 @@ pub(crate) const AUTHORITY: &[u8] =
       \x04\x05\x30\x03\x01\x01\xFF\x30\x0E\x06\x03\x55\x1D\x0F\x01\x01\xFF\x04\x04\x03\x02\x02\x04";
 
 /// That of the authority `CN=a`, with the path length 0.
-pub(crate) const LIMITED: &[u8] =
+const LIMITED: &[u8] =
     b"\x30\x81\xD4\x30\x63\xA0\x03\x02\x01\x02\x02\x01\x01\x30\x05\x06\x03\x2A\x03\x04\x30\x00\x30\x1E\
       \x17\x0D100101083000Z\x17\x0D301231083000Z\x30\x0C\x31\x0A\x30\x08\x06\x03\x55\x04\x03\x0C\x01a\x30\x0A\x30\x05\
       \x06\x03\x2A\x03\x04\x03\x01\x00\xA3\x16\x30\x14\x30\x12\x06\x03\x55\x1D\x13\x01\x01\xFF\
@@ -154,7 +205,7 @@ pub(crate) const LIMITED: &[u8] =
       \x30\x12\x06\x03\x55\x1D\x13\x01\x01\xFF\x04\x08\x30\x06\x01\x01\xFF\x02\x01\x00";
 
 /// That of the authority `CN=b`, which `CN=a` issued.
-pub(crate) const BELOW_LIMITED: &[u8] =
+const BELOW_LIMITED: &[u8] =
     b"\x30\x81\xE6\x30\x6C\xA0\x03\x02\x01\x02\x02\x01\x01\x30\x05\x06\x03\x2A\x03\x04\x30\x0C\x31\x0A\x30\x08\
       \x06\x03\x55\x04\x03\x0C\x01a\x30\x1E\x17\x0D100101083000Z\x17\x0D301231083000Z\x30\x0C\x31\x0A\x30\x08\
       \x06\x03\x55\x04\x03\x0C\x01b\x30\x0A\x30\x05\x06\x03\x2A\x03\x04\x03\x01\x00\xA3\x13\x30\x11\x30\x0F\
@@ -165,7 +216,7 @@ pub(crate) const BELOW_LIMITED: &[u8] =
       \x04\x05\x30\x03\x01\x01\xFF";
 
 /// One that `CN=a` issued.
-pub(crate) const LEAF_OF_LIMITED: &[u8] =
+const LEAF_OF_LIMITED: &[u8] =
     b"\x30\x81\xA4\x30\x4B\xA0\x03\x02\x01\x02\x02\x01\x01\x30\x05\x06\x03\x2A\x03\x04\x30\x0C\x31\x0A\x30\x08\
       \x06\x03\x55\x04\x03\x0C\x01a\x30\x1E\x17\x0D100101083000Z\x17\x0D301231083000Z\x30\x00\x30\x0A\x30\x05\
       \x06\x03\x2A\x03\x04\x03\x01\x00\x30\x05\x06\x03\x2A\x03\x04\x03\x4E\x00\x30\x4B\xA0\x03\x02\x01\x02\x02\x01\x01\
@@ -173,7 +224,7 @@ pub(crate) const LEAF_OF_LIMITED: &[u8] =
       \x17\x0D301231083000Z\x30\x00\x30\x0A\x30\x05\x06\x03\x2A\x03\x04\x03\x01\x00";
 
 /// One that `CN=b` issued.
-pub(crate) const LEAF_BELOW: &[u8] =
+const LEAF_BELOW: &[u8] =
     b"\x30\x81\xA4\x30\x4B\xA0\x03\x02\x01\x02\x02\x01\x01\x30\x05\x06\x03\x2A\x03\x04\x30\x0C\x31\x0A\x30\x08\
       \x06\x03\x55\x04\x03\x0C\x01b\x30\x1E\x17\x0D100101083000Z\x17\x0D301231083000Z\x30\x00\x30\x0A\x30\x05\
       \x06\x03\x2A\x03\x04\x03\x01\x00\x30\x05\x06\x03\x2A\x03\x04\x03\x4E\x00\x30\x4B\xA0\x03\x02\x01\x02\x02\x01\x01\
@@ -181,79 +232,160 @@ pub(crate) const LEAF_BELOW: &[u8] =
       \x17\x0D301231083000Z\x30\x00\x30\x0A\x30\x05\x06\x03\x2A\x03\x04\x03\x01\x00";
 
 #[test]
-fn paths_that_hold(rt: HostRuntime) -> Result<(), Fail> {
-    assert!(rt; checked(rt.alloc(), &[LEAF], IN_DATE)?.is_ok());
-    assert!(rt; checked(rt.alloc(), &[AUTHORITY, AUTHORITY, LEAF], IN_DATE)?.is_ok());
-    assert!(rt; checked(rt.alloc(), &[LIMITED, LEAF_OF_LIMITED], IN_DATE)?.is_ok());
-    Ok(())
-}
-
-#[test]
-fn no_path(rt: HostRuntime) -> Result<(), Fail> {
-    assert!(rt; checked(rt.alloc(), &[], IN_DATE)? == Err(PathFault::Empty));
-    Ok(())
-}
-
-#[test]
-fn no_certificate_in_order(rt: HostRuntime) -> Result<(), Fail> {
+fn paths_that_hold(rt: HostRuntime) {
     let alloc = rt.alloc();
-    assert!(rt; has(alloc, &[&[0x05, 0x00]], 0, PathReason::Decode)?);
-    assert!(rt; has(alloc, &[TWO_ALGORITHMS], 0, PathReason::Algorithm)?);
-    assert!(rt; has(alloc, &[OTHER_ISSUER], 0, PathReason::Issuer)?);
-    assert!(rt; has(alloc, &[UNSIGNED], 0, PathReason::Signature)?);
-    Ok(())
+    let answers = [
+        holds(alloc, &[LEAF]),
+        holds(alloc, &[AUTHORITY, AUTHORITY, LEAF]),
+        holds(alloc, &[LIMITED, LEAF_OF_LIMITED]),
+        holds(alloc, &[NO_KEY_CERT_SIGN]),
+    ];
+    assert!(rt; answers == [true; 4]);
 }
 
+/// No path; and the second behind the validity.
 #[test]
-fn out_of_date(rt: HostRuntime) -> Result<(), Fail> {
-    let fault = PathFault::At {
+fn no_path(rt: HostRuntime) {
+    let alloc = rt.alloc();
+    let late = PathFault::At {
         place: 0,
         reason: PathReason::Moment,
     };
-    assert!(rt; checked(rt.alloc(), &[LEAF], OUT_OF_DATE)? == Err(fault));
-    Ok(())
+    let validation_late = ValidationFault::At {
+        place: 0,
+        reason: ValidationReason::Moment,
+    };
+    let answers = [
+        checked(alloc, &[], IN_DATE) == Some(Err(PathFault::Empty)),
+        validated(alloc, &[], &asked(IN_DATE)) == Err(ValidationFault::Empty),
+        checked(alloc, &[LEAF], OUT_OF_DATE) == Some(Err(late)),
+        validated(alloc, &[LEAF], &asked(OUT_OF_DATE)) == Err(validation_late),
+    ];
+    assert!(rt; answers == [true; 4]);
 }
 
+/// A NULL in the place of constraints on names; octets of no OID among the policies; and none of the purposes, where one is asked for.
 #[test]
-fn faults_of_extensions(rt: HostRuntime) -> Result<(), Fail> {
-    let alloc = rt.alloc();
-    assert!(rt; has(alloc, &[REPEATED], 0, PathReason::Repeated)?);
-    assert!(rt; has(alloc, &[CRITICAL], 0, PathReason::Critical)?);
-    assert!(rt; has(alloc, &[UNREADABLE], 0, PathReason::Critical)?);
-    Ok(())
+fn settings(rt: HostRuntime) {
+    let null: &[u8] = &[0x05, 0x00];
+    let none: &[u8] = &[0x55, 0x80];
+    let constrained = PathSettings {
+        name_constraints: Some(null),
+        ..asked(IN_DATE)
+    };
+    let policies = [none];
+    let under_policies = PathSettings {
+        user_initial_policy_set: Some(&policies),
+        ..asked(IN_DATE)
+    };
+    let for_nothing = PathSettings {
+        purposes: Some(&[]),
+        ..asked(IN_DATE)
+    };
+    let purpose = ValidationFault::At {
+        place: 0,
+        reason: ValidationReason::Purpose,
+    };
+    let answers = [
+        validated(rt.alloc(), &[LEAF], &constrained) == Err(ValidationFault::Initial),
+        validated(rt.alloc(), &[LEAF], &under_policies) == Err(ValidationFault::Initial),
+        validated(rt.alloc(), &[LEAF], &for_nothing) == Err(purpose),
+    ];
+    assert!(rt; answers == [true; 3]);
 }
 
+/// Of one certificate the first fault in order, of two that at the lower place.
 #[test]
-fn faults_of_authorities(rt: HostRuntime) -> Result<(), Fail> {
+fn first_faults(rt: HostRuntime) {
     let alloc = rt.alloc();
-    assert!(rt; checked(alloc, &[NO_KEY_CERT_SIGN], IN_DATE)?.is_ok());
-    assert!(rt; has(alloc, &[NO_KEY_CERT_SIGN, LEAF], 0, PathReason::KeyUsage)?);
-    assert!(rt; has(alloc, &[AUTHORITY, LEAF, LEAF], 1, PathReason::NotCa)?);
-    assert!(rt;
+    let null: &[u8] = &[0x05, 0x00];
+    let answers = [
+        has(
+            alloc,
+            &[null],
+            0,
+            PathReason::Decode,
+            ValidationReason::Decode,
+        ),
+        has(
+            alloc,
+            &[TWO_ALGORITHMS],
+            0,
+            PathReason::Algorithm,
+            ValidationReason::Algorithm,
+        ),
+        has(
+            alloc,
+            &[OTHER_ISSUER],
+            0,
+            PathReason::Issuer,
+            ValidationReason::Issuer,
+        ),
+        has(
+            alloc,
+            &[UNSIGNED],
+            0,
+            PathReason::Signature,
+            ValidationReason::Signature,
+        ),
+        has(
+            alloc,
+            &[REPEATED],
+            0,
+            PathReason::Repeated,
+            ValidationReason::Repeated,
+        ),
+        has(
+            alloc,
+            &[CRITICAL],
+            0,
+            PathReason::Critical,
+            ValidationReason::Critical,
+        ),
+        has(
+            alloc,
+            &[UNREADABLE],
+            0,
+            PathReason::Critical,
+            ValidationReason::Extension,
+        ),
+        has(
+            alloc,
+            &[NO_KEY_CERT_SIGN, LEAF],
+            0,
+            PathReason::KeyUsage,
+            ValidationReason::KeyUsage,
+        ),
+        has(
+            alloc,
+            &[AUTHORITY, LEAF, LEAF],
+            1,
+            PathReason::NotCa,
+            ValidationReason::NotCa,
+        ),
         has(
             alloc,
             &[LIMITED, BELOW_LIMITED, LEAF_BELOW],
             1,
-            PathReason::PathLen
-        )?
-    );
-    Ok(())
-}
-
-/// Of one certificate the first in order, of two the lower place.
-#[test]
-fn first_faults(rt: HostRuntime) -> Result<(), Fail> {
-    let alloc = rt.alloc();
-    assert!(rt; has(alloc, &[REPEATED_AND_CRITICAL], 0, PathReason::Repeated)?);
-    assert!(rt;
+            PathReason::PathLen,
+            ValidationReason::PathLen,
+        ),
+        has(
+            alloc,
+            &[REPEATED_AND_CRITICAL],
+            0,
+            PathReason::Repeated,
+            ValidationReason::Repeated,
+        ),
         has(
             alloc,
             &[AUTHORITY, CRITICAL, TWO_ALGORITHMS],
             1,
-            PathReason::Critical
-        )?
-    );
-    Ok(())
+            PathReason::Critical,
+            ValidationReason::Critical,
+        ),
+    ];
+    assert!(rt; answers == [true; 12]);
 }
 
 #[test]

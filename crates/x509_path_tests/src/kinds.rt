@@ -1,13 +1,9 @@
 //! What CRLs of distribution points, indirect ones and delta CRLs say of one certificate.
 
-use crate::statuses::{KEY, LEAF, NAME, is_compromised, is_unrevoked, left};
+use crate::statuses::{IN_DATE, LEAF, SIGNER, is_compromised, is_unrevoked, left, status_by};
 use std::alloc::Global;
-use std::str::FromStr;
 use std::test::*;
-use x509_base::{DateTime, Rfc5280};
-use x509_check::{CertificateRef, CrlRef};
-use x509_path::{AnchorRef, AnySignature};
-use x509_revocation::{RevocationSettings, RevocationStatus, SignedCrl, revocation_status};
+use x509_revocation::RevocationStatus;
 
 /// Of the serial number 1, with a distribution point that is named `u`.
 pub(crate) const POINTED: &[u8] = &[
@@ -138,7 +134,7 @@ const ADDS_LATER: &[u8] = &[
     0x05, 0x30, 0x05, 0x06, 0x03, 0x2A, 0x03, 0x04, 0x03, 0x01, 0x00,
 ];
 
-/// What the CRLs say of the certificate on 2020-01-01, where both are signed by the key under the empty name. The signatures aren't looked at.
+/// What the CRLs say of the certificate on 2020-01-01, where one key signs both.
 fn status_by_two(
     alloc: Global,
     certificate: &[u8],
@@ -146,41 +142,8 @@ fn status_by_two(
     second: &[u8],
     use_deltas: bool,
 ) -> Option<RevocationStatus> {
-    let Ok(moment) = DateTime::from_str("2020-01-01T00:00:00Z") else {
-        return None;
-    };
-    let settings = RevocationSettings {
-        moment,
-        without_next_update: false,
-        use_deltas,
-    };
-    let signer = AnchorRef {
-        name: NAME,
-        key: KEY,
-    };
-    let Ok(certificate) = CertificateRef::<Rfc5280>::from_der(certificate) else {
-        return None;
-    };
-    let Ok(first) = CrlRef::<Rfc5280>::from_der(first) else {
-        return None;
-    };
-    let Ok(second) = CrlRef::<Rfc5280>::from_der(second) else {
-        return None;
-    };
-    let crls = [
-        SignedCrl {
-            crl: &first,
-            signer,
-        },
-        SignedCrl {
-            crl: &second,
-            signer,
-        },
-    ];
-    match revocation_status(alloc, &certificate, &crls, &settings, &AnySignature) {
-        Ok(status) => Some(status),
-        Err(_) => None,
-    }
+    let crls = [first, second, first];
+    status_by(alloc, certificate, crls, [SIGNER; 3], IN_DATE, use_deltas)
 }
 
 /// A CRL under the name of a point is one for the certificate that has the point alone.

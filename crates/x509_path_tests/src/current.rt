@@ -1,14 +1,14 @@
 //! Which of several CRLs for one scope counts.
 
 use crate::kinds::{ADDS, COMPLETE, COMPLETE_WITHOUT};
-use crate::statuses::{KEY, LEAF, NAME, OTHERS, REVOKES, is_compromised, is_unrevoked, left};
+use crate::statuses::{
+    IN_DATE, KEY, LEAF, NAME, OTHERS, REVOKES, SIGNER, is_compromised, is_unrevoked, left,
+    status_by,
+};
 use std::alloc::Global;
-use std::str::FromStr;
 use std::test::*;
-use x509_base::{DateTime, Rfc5280};
-use x509_check::{CertificateRef, CrlRef};
-use x509_path::{AnchorRef, AnySignature};
-use x509_revocation::{RevocationSettings, RevocationStatus, SignedCrl, revocation_status};
+use x509_path::AnchorRef;
+use x509_revocation::RevocationStatus;
 
 /// A delta CRL of the number 5 to the base 3: the serial number 1 is removed.
 const REMOVES_LATER: &[u8] = &[
@@ -61,55 +61,18 @@ fn under(key: &[u8]) -> AnchorRef<'_> {
     AnchorRef { name: NAME, key }
 }
 
-/// What the CRLs say of [`LEAF`] on 2020-01-01, each with its signer. The signatures aren't looked at.
+/// What the CRLs say of [`LEAF`] on 2020-01-01, each with its signer.
 fn status(
     alloc: Global,
     crls: [&[u8]; 3],
     signers: [AnchorRef<'_>; 3],
 ) -> Option<RevocationStatus> {
-    let Ok(moment) = DateTime::from_str("2020-01-01T00:00:00Z") else {
-        return None;
-    };
-    let settings = RevocationSettings {
-        moment,
-        without_next_update: false,
-        use_deltas: true,
-    };
-    let Ok(certificate) = CertificateRef::<Rfc5280>::from_der(LEAF) else {
-        return None;
-    };
-    let Ok(first) = CrlRef::<Rfc5280>::from_der(crls[0]) else {
-        return None;
-    };
-    let Ok(second) = CrlRef::<Rfc5280>::from_der(crls[1]) else {
-        return None;
-    };
-    let Ok(third) = CrlRef::<Rfc5280>::from_der(crls[2]) else {
-        return None;
-    };
-    let given = [
-        SignedCrl {
-            crl: &first,
-            signer: signers[0],
-        },
-        SignedCrl {
-            crl: &second,
-            signer: signers[1],
-        },
-        SignedCrl {
-            crl: &third,
-            signer: signers[2],
-        },
-    ];
-    match revocation_status(alloc, &certificate, &given, &settings, &AnySignature) {
-        Ok(status) => Some(status),
-        Err(_) => None,
-    }
+    status_by(alloc, LEAF, crls, signers, IN_DATE, true)
 }
 
 /// The same where one key signs all.
 fn under_one(alloc: Global, crls: [&[u8]; 3]) -> Option<RevocationStatus> {
-    status(alloc, crls, [under(KEY), under(KEY), under(KEY)])
+    status(alloc, crls, [SIGNER; 3])
 }
 
 /// Of delta CRLs the one with the highest number counts: the older one adds an entry that the newer one removes.

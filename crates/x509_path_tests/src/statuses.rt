@@ -65,30 +65,67 @@ pub(crate) const AUTHORITIES: &[u8] = &[
     0x82, 0x01, 0xFF, 0x30, 0x05, 0x06, 0x03, 0x2A, 0x03, 0x04, 0x03, 0x01, 0x00,
 ];
 
-/// What the CRL says of [`LEAF`] at that time, where it is signed by the key under the empty name. The signature isn't looked at.
-fn status(alloc: Global, list: &[u8], moment: DateTime) -> Option<RevocationStatus> {
+/// That the key signs, under the empty name.
+pub(crate) const SIGNER: AnchorRef<'static> = AnchorRef {
+    name: NAME,
+    key: KEY,
+};
+
+/// What the CRLs say of the certificate at that time, each with its signer. The signatures aren't looked at.
+pub(crate) fn status_by(
+    alloc: Global,
+    certificate: &[u8],
+    crls: [&[u8]; 3],
+    signers: [AnchorRef<'_>; 3],
+    moment: &str,
+    use_deltas: bool,
+) -> Option<RevocationStatus> {
+    let Ok(moment) = DateTime::from_str(moment) else {
+        return None;
+    };
     let settings = RevocationSettings {
         moment,
         without_next_update: false,
-        use_deltas: false,
+        use_deltas,
     };
-    let signer = AnchorRef {
-        name: NAME,
-        key: KEY,
+    let Ok(certificate) = CertificateRef::<Rfc5280>::from_der(certificate) else {
+        return None;
     };
-    match CertificateRef::<Rfc5280>::from_der(LEAF) {
-        Ok(certificate) => match CrlRef::<Rfc5280>::from_der(list) {
-            Ok(crl) => {
-                let signed = SignedCrl { crl: &crl, signer };
-                match revocation_status(alloc, &certificate, &[signed], &settings, &AnySignature) {
-                    Ok(status) => Some(status),
-                    Err(_) => None,
-                }
-            }
-            Err(_) => None,
+    let Ok(first) = CrlRef::<Rfc5280>::from_der(crls[0]) else {
+        return None;
+    };
+    let Ok(second) = CrlRef::<Rfc5280>::from_der(crls[1]) else {
+        return None;
+    };
+    let Ok(third) = CrlRef::<Rfc5280>::from_der(crls[2]) else {
+        return None;
+    };
+    let given = [
+        SignedCrl {
+            crl: &first,
+            signer: signers[0],
         },
+        SignedCrl {
+            crl: &second,
+            signer: signers[1],
+        },
+        SignedCrl {
+            crl: &third,
+            signer: signers[2],
+        },
+    ];
+    match revocation_status(alloc, &certificate, &given, &settings, &AnySignature) {
+        Ok(status) => Some(status),
         Err(_) => None,
     }
+}
+
+/// 2020-01-01, when the CRLs here are in date.
+pub(crate) const IN_DATE: &str = "2020-01-01T00:00:00Z";
+
+/// What the CRL says of [`LEAF`] at that time, where that key signs it.
+fn status(alloc: Global, list: &[u8], moment: &str) -> Option<RevocationStatus> {
+    status_by(alloc, LEAF, [list; 3], [SIGNER; 3], moment, false)
 }
 
 /// Whether the certificate isn't revoked.
@@ -120,28 +157,21 @@ pub(crate) fn left(status: Option<RevocationStatus>) -> Option<u16> {
 }
 
 #[test]
-fn entries(rt: HostRuntime) -> Result<(), Fail> {
-    let moment = DateTime::from_str("2020-01-01T00:00:00Z")?;
-    assert!(rt; is_unrevoked(status(rt.alloc(), OTHERS, moment)));
-    assert!(rt; is_compromised(status(rt.alloc(), REVOKES, moment), 0));
-    Ok(())
+fn entries(rt: HostRuntime) {
+    assert!(rt; is_unrevoked(status(rt.alloc(), OTHERS, IN_DATE)));
+    assert!(rt; is_compromised(status(rt.alloc(), REVOKES, IN_DATE), 0));
 }
 
 /// The CRL is in date up to the second of its next update.
 #[test]
-fn in_date(rt: HostRuntime) -> Result<(), Fail> {
-    let last = DateTime::from_str("2020-02-01T00:00:00Z")?;
-    let next = DateTime::from_str("2020-02-01T00:00:01Z")?;
-    assert!(rt; is_unrevoked(status(rt.alloc(), OTHERS, last)));
-    assert!(rt; left(status(rt.alloc(), OTHERS, next)) == Some(0x1FE));
-    Ok(())
+fn in_date(rt: HostRuntime) {
+    assert!(rt; is_unrevoked(status(rt.alloc(), OTHERS, "2020-02-01T00:00:00Z")));
+    assert!(rt; left(status(rt.alloc(), OTHERS, "2020-02-01T00:00:01Z")) == Some(0x1FE));
 }
 
 /// All reasons but keyCompromise, bit 1, are left by a CRL for that alone; and all by a CRL for authorities.
 #[test]
-fn some_reasons(rt: HostRuntime) -> Result<(), Fail> {
-    let moment = DateTime::from_str("2020-01-01T00:00:00Z")?;
-    assert!(rt; left(status(rt.alloc(), COMPROMISES, moment)) == Some(0x1FC));
-    assert!(rt; left(status(rt.alloc(), AUTHORITIES, moment)) == Some(0x1FE));
-    Ok(())
+fn some_reasons(rt: HostRuntime) {
+    assert!(rt; left(status(rt.alloc(), COMPROMISES, IN_DATE)) == Some(0x1FC));
+    assert!(rt; left(status(rt.alloc(), AUTHORITIES, IN_DATE)) == Some(0x1FE));
 }

@@ -1,5 +1,0 @@
-//! Tests of Merkle trees.
-#![tactic(auto)]
-
-#[cfg(test)]
-mod reference;

@@ -1,5 +1,0 @@
-//! Tests of paths that are found.
-#![tactic(auto)]
-
-#[cfg(test)]
-mod found;
