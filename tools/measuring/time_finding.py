@@ -15,46 +15,25 @@ both built without a network. Go runs without its collector, so that none of its
 """
 import argparse
 import datetime
-import os
 import pathlib
-import re
-import shutil
-import subprocess
+import sys
 import tempfile
 
 from cryptography import x509
 from cryptography.hazmat.primitives import hashes, serialization
 from cryptography.hazmat.primitives.asymmetric import ec
 
+sys.path.insert(0, str(pathlib.Path(__file__).resolve().parents[1]))
+sys.dont_write_bytecode = True
+from common.callgrind import counted
+from common.peers import GO, built_c, built_go, built_rust, signatures
+
 HERE = pathlib.Path(__file__).resolve().parent
 DER = serialization.Encoding.DER
 BEGINS, ENDS = datetime.datetime(2026, 1, 1), datetime.datetime(2027, 12, 1)
-SOURCES = pathlib.Path("/usr/share/cargo/registry")
-# without a collector, and without stops in between
-GO = {"GO111MODULE": "off", "GOFLAGS": "", "GOPROXY": "off", "GOGC": "off", "GOMAXPROCS": "1", "GODEBUG": "asyncpreemptoff=1"}
-MANIFEST = """[package]
-name = "finding"
-version = "0.0.0"
-edition = "2021"
-
-[[bin]]
-name = "finding"
-path = "{}"
-
-[dependencies]
-webpki = {{ version = "0.22", features = ["std"] }}
-
-[profile.release]
-lto = true
-codegen-units = 1
-"""
-# what is asked of which program, and the function that checks a signature, as callgrind names it
+# what is asked of which program, and whose checks of signatures are left out
 C, RUST, GOLANG = "finding.c", "finding.rs", "finding.go"
-SIGNATURE = {
-    C: re.compile(r"ASN1_item_verify_ex\b"),
-    GOLANG: re.compile(r"crypto/x509\.checkSignature$"),
-    RUST: re.compile(r"<ring::.*::EcdsaVerificationAlgorithm as ring::signature::VerificationAlgorithm>::verify$"),
-}
+PEER = {C: "openssl", GOLANG: "go", RUST: "webpki"}
 ROWS = [
     (C, "find", "x509_path_find, from the DER of all 161"),
     (RUST, "webpki", "webpki, verify_is_valid_tls_server_cert from the DER of the 11, under trust anchors that are made of the roots before"),
@@ -98,42 +77,20 @@ def make(folder):
     put(folder / "leaf.bin", [issuers[6].issue(server, x509.BasicConstraints(False, None), names, x509.ExtendedKeyUsage([x509.ExtendedKeyUsageOID.SERVER_AUTH]))])
 
 
-def counted(words, folder, is_signature):
-    """How many instructions a program takes, and how many of them in the checks of signatures."""
-    out = folder / "callgrind.out"
-    asked = ["valgrind", "--tool=callgrind", "--compress-strings=no", f"--callgrind-out-file={out}", *words]
-    subprocess.run(asked, check=True, capture_output=True, env={**os.environ, **GO})
-    whole, checked, callee, is_call = 0, 0, "", False
-    for line in out.read_text(encoding="utf-8").splitlines():
-        if line.startswith("summary: "):
-            whole = int(line.split()[1])
-        elif line.startswith("cfn="):
-            callee = line[4:]
-        elif is_call and is_signature.match(callee):
-            # the line behind a call: where it stands, and what it takes with all that is called there
-            checked += int(line.split()[1])
-        is_call = line.startswith("calls=")
-    return whole, checked
-
-
 def build(folder, library):
     """The programs that can be built, with their words, by their sources."""
-    programs = {C: [folder / "finding_c", library]}
-    words = [os.environ.get("CC", "cc"), "-std=c11", "-D_GNU_SOURCE", "-O2", "-Wall", "-Wextra", "-Werror", "-I", HERE.parents[1] / "include"]
-    subprocess.run([*words, HERE / C, "-lcrypto", "-ldl", "-o", folder / "finding_c"], check=True)
-    if shutil.which("go") is None:
-        print("left out, since go isn't installed: Go")
-    else:
-        programs[GOLANG] = [folder / "finding_go"]
-        subprocess.run(["go", "build", "-o", folder / "finding_go", HERE / GOLANG], check=True, env={**os.environ, **GO})
-    if shutil.which("cargo") is None or not [*SOURCES.glob("webpki-0.22.*")]:
-        print("left out, since cargo or Debian's librust-webpki-dev isn't installed: webpki")
-    else:
-        (folder / "Cargo.toml").write_text(MANIFEST.format(HERE / RUST), encoding="utf-8")
-        configured = ["--config", 'source.crates-io.replace-with="debian"', "--config", f'source.debian.directory="{SOURCES}"']
-        words = ["cargo", "build", "-q", "--release", "--offline", "--manifest-path", folder / "Cargo.toml", "--target-dir", folder / "target", *configured]
-        subprocess.run(words, check=True)
-        programs[RUST] = [folder / "target" / "release" / "finding"]
+    compiled = built_c(HERE / C, folder / "finding_c", "-lcrypto", "-ldl")
+    if compiled is None:
+        sys.exit(f"{C} isn't compiled: that takes libcrypto 3 with its headers")
+    programs = {C: [compiled, library]}
+    for source, program, what in (
+        (GOLANG, built_go(HERE / GOLANG, folder / "finding_go"), "go isn't installed: Go"),
+        (RUST, built_rust(HERE / RUST, folder), "cargo or Debian's librust-webpki-dev isn't installed: webpki"),
+    ):
+        if program is None:
+            print(f"left out, since {what}")
+        else:
+            programs[source] = [program]
     return programs
 
 
@@ -148,7 +105,8 @@ def main():
         print(f"{'all of it':>12} {'without':>12} signatures")
         for source, what, text in ROWS:
             if source in programs:
-                once, more = (counted([*programs[source], folder, what, str(count)], folder, SIGNATURE[source]) for count in (1, 11))
+                words, left_out = [*programs[source], folder, what], signatures(PEER[source])
+                once, more = (counted([*words, str(count)], folder, left_out, GO) for count in (1, 11))
                 whole, checked = ((more[at] - once[at]) // 10 for at in range(2))
                 print(f"{whole:>12,} {whole - checked:>12,} {text}", flush=True)
 
