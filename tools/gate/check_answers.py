@@ -40,6 +40,7 @@ TELLS_NONE = {
 # calls that may answer X509_MEMORY by their contract, and take none for any value
 TAKES_NONE = {
     "x509_serial_number": "up to 21 octets stand within the value",
+    "x509_crl_number_encode": "up to 20 octets stand within the value, and more are refused",
 }
 
 

@@ -10,13 +10,8 @@ import textwrap
 
 TOP = pathlib.Path(__file__).resolve().parents[2]
 INSTALLED = ("text.c", "text.cc", "CMakeLists.txt", "text.rs", "text.py")
-TRUSTED = ("bindings/rust/tests/find.rs", "examples/c/tls_client.c")
-REVOKED = (
-    "crates/x509_revocation_tests/src/validated.rt",
-    "examples/c/revoked.c",
-    "bindings/rust/tests/revocation.rs",
-    "bindings/python/tests/test_revocation.py",
-)
+TRUSTED = ("bindings/rust/tests/find.rs",)
+REVOKED = ("crates/x509_path_tests/src/validated.rt",)
 PYTHON = "bindings/python/tests/test_lint.py", "bindings/python/tests/test_verification.py"
 FILES = ("crates/x509_cert_tests/src/example.rt", *(f"examples/installed/{name}" for name in INSTALLED), *TRUSTED, *REVOKED, *PYTHON)
 ENTRIES = (

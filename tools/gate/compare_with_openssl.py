@@ -6,7 +6,9 @@ set (X.690 11.2.2), which two certificates of the store have. These are counted 
 
 Subject, issuer, serial number, dates, algorithms, the size of the key where x509_show prints one, and of extensions whether they are critical, key usage,
 extended key usage, basic constraints, key identifiers, alternative names, policies and the names of CRL distribution points. Qualifiers of policies aren't
-compared, and of a directory name or an other name among general names only that it stands there.
+compared, and of a directory name or an other name among general names only that it stands there. Taken for the same are other names of usages, purposes,
+algorithms, extensions and reasons, OIDs that one names and the other doesn't, the order of an RDN's attributes, the sign of a serial number, commas in names.
+No size of a key is compared where RSA's numbers are negative or padded or a curve has no name, and no payload of which openssl prints the octets.
 
 The certificates are those in PEM in the files below the folders, each once; without folders, the system's store. The CRLs and the CSRs are made by openssl
 (`objects_of_openssl.py`). Of a CRL the issuer, the dates, the algorithm and the extensions are compared, and of each entry the serial number, the

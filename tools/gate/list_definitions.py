@@ -1,7 +1,7 @@
 #!/usr/bin/env python3
-"""Makes the end of docs/DEFINITIONS.md: by crate, lowest first, each file of specs whose comment in front names a section of a standard, with that comment: the
-grammar of a type in one line, or what the definitions are of. Of the others the names alone; left out are files of laws, of equalities and of how types lie in the
-toolchain's logic.
+"""Makes the end of docs/DEFINITIONS.md: by crate, lowest first, the files of `specs` whose comment in front names a section of a standard, without their
+ending, and the sections in brackets, of RFC 5280 these alone; and how many others there are. Of some crates the number alone. Not counted are files of
+laws, of equalities and of how types lie in the toolchain's logic.
 
 With `--check` it fails where the page has another text, or a file begins with no comment.
 """
@@ -15,36 +15,46 @@ from common.crates import TOP, crates_below
 from common.indexes import listed, put
 
 PAGE = "docs/DEFINITIONS.md"
-GRAMMAR = re.compile(r"[A-Z]\w+(?: and \w+)*: ")
-STANDARD = re.compile(r"RFC \d|X\.\d{3}|ISO \d|TLS BR|Baseline Requirements|\d\.\d\.\d")
+# Crates whose files are all of one kind, each of the object or the group that its name says.
+KINDS = {"x509_text": "of lines that are printed", "x509_lint": "of rules", "x509_lint_web": "of rules", "x509_c_calls": "of what calls from C answer"}
+USUAL = "RFC 5280"
+STANDARD = re.compile(r"RFC \d+(?:, \d{4}\b)*|X\.\d{3}|IEEE 802\.1AR|ISO 8601|TLS BR|(?:CA/Browser Forum, )?Baseline Requirements")
+SECTION = r"(?:sections? |appendix )?(?!X\.\d{3})((?:[A-Z]\.)?\d+(?:\.\d+)*|(?<=appendix )[A-Z](?:\.\d+)*)\b"
+SECTIONS = re.compile(rf"(?: {SECTION})(?:(?:,| and| to) {SECTION})*")
 LEFT_OUT = re.compile(r"Lib|\w*(?:Laws|Equality|Rows)")
 
 
 def begins(file):
-    """The comment in front of a file; each line that begins a grammar is a sentence of its own."""
-    lines = re.match(r"(?:-- [^\n]*\n)*", file.read_text(encoding="utf-8"))[0].replace("-- ", "").splitlines()
-    text = ""
-    for line in lines:
-        ends = GRAMMAR.match(line) and not text.endswith(".")
-        text += f"{'. ' if ends else ' '}{line}" if text else line
-    return text if text.endswith(".") else f"{text}."
+    """The comment in front of a file."""
+    return " ".join(re.match(r"(?:-- [^\n]*\n)*", file.read_text(encoding="utf-8"))[0].replace("-- ", "").split())
+
+
+def sections(text):
+    """The sections that a comment names right behind a standard, behind its name but for the usual one."""
+    found = {}
+    for mark in STANDARD.finditer(text):
+        told = SECTIONS.match(text, mark.end())
+        standard = "TLS BR" if "Baseline" in mark[0] else mark[0].replace(", ", ",")
+        found.setdefault(standard, {}).update(dict.fromkeys(re.findall(SECTION, told[0]) if told else ()))
+    named = (f"{'' if standard == USUAL else standard} {','.join(numbers)}".strip() for standard, numbers in found.items())
+    return "; ".join(it for it in named if it)
 
 
 def made():
     lines, count = [], 0
     for crate in crates_below():
         specs = TOP / "crates" / crate / "specs"
-        files = {it.relative_to(specs).as_posix(): begins(it) for it in sorted(specs.rglob("*.antt")) if not LEFT_OUT.fullmatch(it.stem)}
-        others = [name for name, text in files.items() if not STANDARD.search(text)]
-        if "." in files.values():
+        files = {it.relative_to(specs).with_suffix("").as_posix(): begins(it) for it in sorted(specs.rglob("*.antt")) if not LEFT_OUT.fullmatch(it.stem)}
+        if "" in files.values():
             raise ValueError(f"a file of {crate} begins with no comment")
+        told = {name: sections(text) for name, text in files.items()}
         if files:
-            lines += ["", f"### `{crate}`", ""]
-        for name, text in files.items():
-            lines += [] if name in others else listed(f"`{name}`: {text}")
-        lines += listed(f"of no section: {', '.join(f'`{name}`' for name in others)}") if others else []
+            named = [f"{name} ({it})" for name, it in told.items() if it and crate not in KINDS]
+            others = len(files) - len(named)
+            more = [f"{others} {KINDS.get(crate, 'of no section')}"] if others else []
+            lines += listed(f"`{crate}`: " + ", ".join(named + more))
         count += len(files)
-    return lines, f"{count} files of definitions"
+    return ["", *lines], f"{count} files of definitions"
 
 
 if __name__ == "__main__":

@@ -1,6 +1,6 @@
 #!/usr/bin/env python3
-"""Makes the end of docs/PROMISES.md: by crate, lowest first, each function that other crates can call, with the first sentence of its docs, and each type
-with its calls; after a call in brackets its named clauses, and after `over` the definitions of the crate's own specs that its contract speaks of.
+"""Makes the end of docs/PROMISES.md: by crate, lowest first, how many wrong bodies it has, its crate of tests, and what other crates can call: of each type the
+calls that have named clauses, the functions, the laws; in brackets behind a call its named clauses. Of the calls from C too those that have such.
 
 With `--check` it fails where the page has another text.
 """
@@ -11,62 +11,50 @@ import sys
 sys.path.insert(0, str(pathlib.Path(__file__).resolve().parents[1]))
 sys.dont_write_bytecode = True
 from common.crates import TOP, crates_below
-from common.indexes import listed, put
+from common.indexes import WIDTH, listed, put
 from common.rattle import calls, source_of
 
 PAGE = "docs/PROMISES.md"
-# Types that stand for others, and the calls from C, whose words are those of include/x509.h.
+# Types that stand for others, of which tests are made; and the calls from C, which include/x509.h lists.
 LEFT_OUT, IN_THE_HEADER = {"x509_test_types"}, "x509_c_calls"
 CLAUSE = re.compile(r"\bensures\*? +(\w+) \{")
 
 
-def said(docs):
-    """The first sentence of docs, up to a colon or semicolon where more than a word stands before it, without links."""
-    text = " ".join(it.removeprefix("///").strip() for it in docs.split("\n") if it.startswith("///"))
-    text = re.sub(r"\[(`[^`]*`)\](?:\([^)]*\))?", r"\1", text)
-    sentence = re.split(r"(?<=[^.])\.(?= |$)", text)[0]
-    front = re.split(r"[:;] ", sentence)[0]
-    return front if " " in front else sentence
+def line_of(name, it):
+    """A call with its named clauses, in backticks as a whole where that isn't longer than a line."""
+    clauses = CLAUSE.findall(it.head)
+    if not clauses:
+        return f"`{name}`"
+    whole = f"`{name}[{','.join(clauses)}]`"
+    return whole if len(whole) < WIDTH - 4 else f"`{name}` [{', '.join(clauses)}]"
 
 
-def definitions(file, crate):
-    """The names of definitions of the crate that a file brings in for its contracts."""
-    text = file.read_text(encoding="utf-8")
-    found = set()
-    for names in re.findall(rf"ghost use Rattle\.{crate}\.specs\.\w+\.\{{([^}}]*)\}}", text):
-        found.update(re.findall(r"(?:as )?(\w+) *(?=,|$)", names.strip()))
-    return found
-
-
-def line_of(name, it, crate):
-    """A call with its clauses and its definitions."""
-    over = [word for word in dict.fromkeys(re.findall(r"\b[A-Z]\w+", it.contract)) if word in definitions(it.file, crate)]
-    named = CLAUSE.findall(it.head)
-    shown = f"`{name}`" + (f" ({', '.join(f'`{word}`' for word in named)})" if named else "")
-    return shown + (f" over {', '.join(f'`{word}`' for word in over)}" if over else "")
+def tests_of(crate, below):
+    """The crate of tests that is named after the crate, else the lowest one that stands on it; none where there is neither."""
+    named = [it for it, deps in below.items() if it.endswith("_tests") and crate in deps]
+    return [it for it in named if it == f"{crate}_tests"] or named[:1]
 
 
 def made():
-    lines, count, clauses = [], 0, 0
-    for crate in crates_below():
+    lines, count, clauses, below = [], 0, 0, crates_below()
+    for crate in below:
         if crate in LEFT_OUT or crate.endswith("_tests") or not (source_of(crate) / "lib.rt").exists():
             continue
-        types, functions = {}, []
+        parts = {}
         for name, it in sorted(calls(crate), key=lambda call: call[0]):
             of, _, method = name.rpartition("::")
             count, clauses = count + 1, clauses + len(CLAUSE.findall(it.head))
-            if of:
-                types.setdefault(of, []).append(line_of(method, it, crate))
-            else:
-                functions.append(line_of(name, it, crate) + ("" if crate == IN_THE_HEADER else f": {said(it.docs)}."))
-        if not types and not functions:
+            if (of or crate == IN_THE_HEADER) and not CLAUSE.search(it.head):
+                continue
+            kind = f"`{of}`" if of else "laws" if "laws" in it.file.relative_to(source_of(crate)).with_suffix("").parts else "functions"
+            parts.setdefault(kind, []).append(line_of(method, it))
+        if not parts:
             continue
         edits = sum(1 for _ in (TOP / "crates" / crate).glob("*/*.edit"))
-        lines += ["", f"### `{crate}`, {edits} wrong bodies", ""]
-        for of, methods in types.items():
-            lines += listed(f"`{of}`: {', '.join(methods)}")
-        for text in functions:
-            lines += listed(text)
+        tests = "".join(f", `{it}`" for it in tests_of(crate, below))
+        lines += ["", f"### `{crate}`: {edits} wrong bodies{tests}", ""]
+        for kind in sorted(parts, key=lambda it: (it == "laws", it == "functions")):
+            lines += listed(f"{kind}: {' '.join(parts[kind])}")
     return lines, f"{count} calls with {clauses} named clauses"
 
 

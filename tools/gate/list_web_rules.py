@@ -15,11 +15,11 @@ PAGE = TOP / "docs/WEB_RULES.md"
 SEVERITIES = {"must": "error", "should": "warning"}
 HEAD = """# The rules of `x509_lint_web`, with sections and days from memory of version 2.1
 
-`tools/gate/list_web_rules.py` makes this page of the rules in `crates/x509_lint_web/src/rule`. They are those of the Baseline Requirements for TLS server
-certificates (TLS BR) of the CA/Browser Forum, of version 2.0 and later, that a certificate alone shows. Whether a rule is broken is a definition of
-`crates/x509_lint_web/specs`, in the file of its group, and `lint_web` is proved to find exactly the rules that are in force at a validation time and broken. A rule
-without a date was in force from the beginning.
-`x509_linter --web MOMENT` prints a line for each rule that a certificate breaks, of those in force at that validation time, as `2026-03-15T00:00:00Z`.
+`tools/gate/list_web_rules.py` makes this page of the rules in `crates/x509_lint_web/src/rule`: those of the Baseline Requirements for TLS server certificates
+(TLS BR) of the CA/Browser Forum, of version 2.0 and later, that a certificate alone shows. Whether a rule is broken is a definition of
+`crates/x509_lint_web/specs`, in the file of its group; `lint_web` is proved to find exactly the rules that are in force at a validation time and broken, and
+`x509_linter --web MOMENT` prints these, of a MOMENT as `2026-03-15T00:00:00Z`. Behind what breaks a rule stand its section, `warning` where that is no error,
+and the day from which it is in force; without a day it was from the beginning.
 
 - A certificate of a *TLS server* has no basic constraints, or ones that are read and don't set cA, and no EKU, or one that is read and has serverAuth.
 - One of an *authority that may stand above TLS servers* has basic constraints that are read and set cA, and such an EKU or none.
@@ -52,7 +52,7 @@ def groups():
 def made():
     faults, lines, count = [], [], 0
     for about, rules, listed in groups():
-        lines.append(f"\n## {about}\n\n| Rule | What breaks it | Section | How bad | From |\n|---|---|---|---|---|\n")
+        lines.append(f"\n## {about.partition(' (TLS BR')[0]}\n\n")
         count += len(rules)
         if [variant for variant, *_ in rules] != listed:
             faults.append(f"the list of all rules has others, or another order: {about}")
@@ -60,7 +60,8 @@ def made():
             end = f" (TLS BR {section}, {severity}{f', from {date}' if date else ''})."
             if not docs.endswith(end):
                 faults.append(f"the docs of {variant} don't end in{end}")
-            lines.append(f"| `{name}` | {docs.removesuffix(end)} | {section} | {severity} | {date} |\n")
+            told = [section, "" if severity == "error" else severity, date and f"from {date}"]
+            lines.append(f"- `{name}`: {docs.removesuffix(end)} ({', '.join(filter(None, told))}).\n")
     return HEAD + f"{count} rules.\n" + "".join(lines), count, faults
 
 

@@ -185,6 +185,7 @@ if has python3 \
     python3 -B "$gate/check_seen.py" || failed=1
     python3 -B "$gate/list_rules.py" --check || failed=1
     python3 -B "$gate/list_web_rules.py" --check || failed=1
+    python3 -B "$gate/list_rule_names.py" --check || failed=1
     python3 -B "$gate/list_types.py" --check || failed=1
     python3 -B "$gate/list_promises.py" --check || failed=1
     python3 -B "$gate/list_definitions.py" --check || failed=1
