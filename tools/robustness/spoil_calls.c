@@ -948,17 +948,19 @@ static int keep_found(const call *of, const base *it, size_t enough)
         is_accepted = 1;
         if ((of->flags & WRITES) && base_count < enough)
             keep("", out, written);
+        int spans = 0;
         for (int field = 0; field < of->field_count; field++) {
             x509_span span;
             if (!of->fields[field].is_span)
                 continue;
+            spans++;
             memcpy(&span, found + of->fields[field].at, sizeof span);
             if (span.place > it->len || span.len > it->len - span.place)
                 stop("a place outside of a base");
             if (base_count >= enough)
                 continue;
             const size_t kept = keep("", it->bytes + span.place, span.len);
-            pool *found_first = field == 0 ? found_by(of->name) : NULL;
+            pool *found_first = spans == 1 ? found_by(of->name) : NULL;
             if (found_first != NULL && kept < MOST_BASES)
                 put(found_first, kept);
         }
@@ -1037,6 +1039,8 @@ static void fill_pools(void)
             put(pool_of("kind:row"), number);
         if (strcmp(it->kind, "Attribute") == 0)
             put(pool_of("kind:Attribute"), number);
+        if (strcmp(it->kind, "GeneralSubtree") == 0)
+            put(pool_of("kind:GeneralSubtree"), number);
         if (strcmp(it->kind, "Certificate") == 0 || strcmp(it->kind, "CertReq") == 0 || strcmp(it->kind, "CertificateList") == 0) {
             x509_crl crl;
             x509_request request;
