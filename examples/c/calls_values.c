@@ -696,6 +696,7 @@ static void encoded_places(void)
     WANT(REFUSED(x509_access_encode(BYTES("\x80"), BYTES(DNS_NAME), OUT), X509_MALFORMED));
     WANT(REFUSED(x509_access_encode(BYTES("\x2a\x03"), BYTES("\x82\x01\xff"), OUT), X509_MALFORMED));
     WANT(WROTE(x509_info_access_encode(BYTES(ACCESS), OUT), "\x30\x09" ACCESS));
+    WANT(x509_info_access_encode(BYTES(ACCESS), room, 4, &written) == X509_ROOM && written == 11);
     WANT(REFUSED(x509_info_access_encode(nothing, 0, OUT), X509_VALUE) && REFUSED(x509_info_access_encode(BYTES(DNS_NAME), OUT), X509_MALFORMED));
 
     WANT(WROTE(x509_subtree_encode(BYTES(DNS_NAME), OUT), SUBTREE) && REFUSED(x509_subtree_encode(nothing, 0, OUT), X509_MALFORMED));
@@ -724,6 +725,7 @@ static void encoded_places(void)
     WANT(REFUSED(x509_distribution_point_encode(nothing, 0, BYTES(ATTRIBUTE), 0, 0, nothing, 0, OUT), X509_MALFORMED));
     WANT(REFUSED(x509_distribution_point_encode(BYTES(DNS_NAME), nothing, 0, 0, 0, BYTES("\x82"), OUT), X509_MALFORMED));
     WANT(WROTE(x509_distribution_points_encode(BYTES(POINT POINT), OUT), "\x30\x12" POINT POINT));
+    WANT(x509_distribution_points_encode(BYTES(POINT POINT), room, 4, &written) == X509_ROOM && written == 20);
     WANT(REFUSED(x509_distribution_points_encode(nothing, 0, OUT), X509_VALUE) && REFUSED(x509_distribution_points_encode(BYTES(DNS_NAME), OUT), X509_MALFORMED));
 
     const x509_issuing_distribution_point_view users = {.only_contains_user_certs = 1}, indirect = {.indirect_crl = 1},

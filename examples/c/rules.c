@@ -401,6 +401,20 @@ static void overlong_paths(const uint8_t *bytes, size_t len)
     WANT(found.anchor == 7 && found.count == 7 && found.place == 7 && found.reason == 7 && matches == 7);
 }
 
+/* Purposes of 39 octets each that are together too long. */
+static void overlong_purposes(uint8_t *bytes, size_t len)
+{
+    const size_t count = len / 41 + 1;
+    size_t *lens = malloc(count * sizeof *lens);
+    written = 77;
+    WANT(lens != NULL && count * 39 <= len);
+    for (size_t at = 0; at < count; at++)
+        lens[at] = 39;
+    memset(bytes, 1, count * 39);
+    WANT(x509_extended_key_usage_encode(bytes, count * 39, lens, count, OUT) == X509_OVERLENGTH && written == 77);
+    free(lens);
+}
+
 /* What builds, of a part that is too long. */
 static void overlong_parts(uint8_t *bytes, size_t len)
 {
@@ -423,6 +437,16 @@ static void overlong_parts(uint8_t *bytes, size_t len)
     WANT(x509_build_device(NUMBER_AND_ALGORITHM, bytes, len, BYTES(KEY), MOMENT, MOMENT, BYTES(NO_NAME), BYTES(KEY), NULL, 0, NULL, 0, OUT) == X509_OVERLENGTH);
     WANT(x509_build_crl(bytes, len, BYTES(ALGORITHM), BYTES("\x01"), MOMENT, 0, 0, NULL, 0, NULL, 0, OUT) == X509_OVERLENGTH);
     WANT(x509_assemble(bytes, len, BYTES(ALGORITHM), NULL, 0, OUT) == X509_OVERLENGTH);
+    /* a name, an access, a point and a subtree of 268,435,455 bytes, which the list round it makes too long */
+    memcpy(bytes, "\x87\x84\x0f\xff\xff\xf9", 6);
+    WANT(x509_general_names_encode(bytes, len - 1, OUT) == X509_OVERLENGTH);
+    WANT(x509_issuing_distribution_point_encode(&(x509_issuing_distribution_point_view){.indirect_crl = 0}, bytes, len - 1, NULL, 0, OUT) == X509_OVERLENGTH);
+    memcpy(bytes, "\x30\x84\x0f\xff\xff\xf9\x06\x03\x55\x04\x03\x87\x84\x0f\xff\xff\xee", 17);
+    WANT(x509_info_access_encode(bytes, len - 1, OUT) == X509_OVERLENGTH);
+    memcpy(bytes, "\x30\x84\x0f\xff\xff\xf9\xa0\x84\x0f\xff\xff\xf3\xa0\x84\x0f\xff\xff\xed\x87\x84\x0f\xff\xff\xe7", 24);
+    WANT(x509_distribution_points_encode(bytes, len - 1, OUT) == X509_OVERLENGTH);
+    memcpy(bytes, "\x30\x84\x0f\xff\xff\xf9\x87\x84\x0f\xff\xff\xf3", 12);
+    WANT(x509_name_constraints_encode(bytes, len - 1, NULL, 0, OUT) == X509_OVERLENGTH);
     /* an attribute of 268,435,455 bytes, which a set round it makes too long; and a set of as many bytes round one, as a name of it is */
     memcpy(bytes, "\x30\x84\x0f\xff\xff\xf9\x06\x03\x55\x04\x03\x0c\x84\x0f\xff\xff\xee", 17);
     WANT(x509_relative_name_encode(bytes, len - 1, OUT) == X509_OVERLENGTH);
@@ -480,6 +504,7 @@ static void overlong(void)
     WANT(x509_signed_slice(bytes, len, &part) == X509_MALFORMED);
     refused_values(bytes, len, X509_OVERLENGTH);
     overlong_paths(bytes, len);
+    overlong_purposes(bytes, len);
     overlong_parts(bytes, len);
     free(bytes);
 }
