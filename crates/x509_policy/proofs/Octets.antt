@@ -4,7 +4,7 @@ use Rattle.std.proofs.Math.Seq.{drop-cons}
 use Rattle.std.proofs.lemmas.List.{drop_all}
 use Rattle.std.specs.Borrow.{Bor}
 use Rattle.std.specs.Str.{bytes_eq}
-use Rattle.x509_policy.specs.Values.{Policy, has, is_repeated}
+use Rattle.x509_policy.specs.Values.{Policy, has}
 use Rattle.x509_policy.specs.Views.{octets_of}
 
 pub has-first : (q : Policy) (ps : List Policy) (p : Policy) → has (q ∷ ps) p ≡ (bytes_eq q p || has ps p)
@@ -25,9 +25,6 @@ module _ (xs : List (Bor (List ℕ))) (i : ℕ) (d : Bor (List ℕ)) (within : i
 
   pub has_left : (p : Policy) → has (octets_of (drop i xs)) p ≡ (bytes_eq (get_or xs i d).now p || has (octets_of (drop (i + 1) xs)) p)
   has_left p = ap (λ ys. has (octets_of ys) p) front ∙ has-first (get_or xs i d).now (octets_of (drop (i + 1) xs)) p
-
-  pub repeated_left : is_repeated (octets_of (drop i xs)) ≡ (has (octets_of (drop (i + 1) xs)) (get_or xs i d).now || is_repeated (octets_of (drop (i + 1) xs)))
-  repeated_left = ap (λ ys. is_repeated (octets_of ys)) front
 
 -- ---- a step of a loop that looks for one
 

@@ -29,19 +29,6 @@ pub fn has_policy(policies: &[&[u8]], policy: &[u8]) -> bool
     false
 }
 
-/// Whether a policy is twice among these, as it may not be in a certificate (RFC 5280 4.2.1.4). Each is compared with
-/// those behind it, so the time is quadratic in their number.
-pub fn has_repeated_policy(policies: &[&[u8]]) -> bool
-    ensures { result ≡ values.is_repeated (octets_of policies.now) }
-{
-    for (i, policy) in policies.iter().enumerate() {
-        if has_policy(&policies[i + 1..], policy) {
-            return true;
-        }
-    }
-    false
-}
-
 /// Whether any-policy is mapped, or something is mapped to it (RFC 5280 6.1.4 (a)).
 pub fn maps_any_policy(mappings: &[MappingView]) -> bool
     ensures { result ≡ values.maps_any_policy (map mapping_of mappings.now) }

@@ -13,7 +13,7 @@ mod values;
 mod way_back;
 
 pub use anchor::{AnchorFlags, merged_policies};
-pub use checks::{ANY_POLICY, has_policy, has_repeated_policy, is_any_policy, maps_any_policy};
+pub use checks::{ANY_POLICY, has_policy, is_any_policy, maps_any_policy};
 pub use counters::PolicyCounters;
 pub use set::PolicySet;
 pub use state::{PolicyOutcome, PolicyReason, PolicyState, check_policies};
