@@ -2,6 +2,7 @@
 use Rattle.std.proofs.Common.{◌≡◌, ◌<◌, ◌≤◌, ℕ, List, [], ◌∷◌, ◌++◌, length, Ok, Err, refl, sym, ap, ◌∙◌, subst, arith, length-append, true, false, IsTrue, ◌↔◌, Option, Some, None, MatchOption}
 use Rattle.std.proofs.lemmas.List.{append-nil}
 use Rattle.std.proofs.lemmas.List.Elements.{All-head, All-tail}
+use Rattle.std.proofs.lemmas.List.Sorted.{IsPermutation-refl}
 use Rattle.x509_der.specs.Element.{element, is_identifier, length_octets}
 use Rattle.x509_der.specs.ElementLaws.{piece_at-element, piece_at-sound}
 use Rattle.x509_der.specs.ElementReading.{Piece, piece_at}
@@ -157,6 +158,12 @@ set_lawful = attribute_set_lawful
 
 pub set_read : (octets : List ℕ) (attributes found : List AttributeTypeAndValue) → attribute_set.good attributes → octets ≡ attribute_set.octets attributes → attribute_set.reading octets ≡ Ok found → found ≡ attributes
 set_read octets attributes found good is read = ok_is found attributes (sym read ∙ ap attribute_set.reading is ∙ set_lawful.complete attributes good)
+
+-- RDNs whose attributes are the same octets match
+pub same_octets_match : (octets : List ℕ) (xs ys : List AttributeTypeAndValue) → attribute_set.good xs → attribute_set.good ys → octets ≡ attribute_set.octets xs → octets ≡ attribute_set.octets ys → RdnsMatch xs ys
+same_octets_match octets xs ys gx gy p q =
+    let same : xs ≡ ys = set_read octets ys xs gy q (ap attribute_set.reading p ∙ set_lawful.complete xs gx) in
+    subst (RdnsMatch xs) same (IsPermutation-refl _)
 
 -- ---- RDNs, one after the other
 

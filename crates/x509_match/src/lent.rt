@@ -180,6 +180,9 @@ fn rdns_match(alloc: Global, a: &[u8], b: &[u8]) -> Result<bool, AllocError>
     ensures plain { (xs ys : List AttributeTypeAndValue) → attribute_set.good xs → attribute_set.good ys
         → a.now ≡ attribute_set.octets xs → b.now ≡ attribute_set.octets ys → IsPlainRdn xs → IsPlainRdn ys → IsOk result }
 {
+    if a == b {
+        return Ok(true);
+    }
     let count = count_attributes(a);
     if count != count_attributes(b) {
         return Ok(false);

@@ -1,6 +1,7 @@
-use Rattle.std.proofs.Common.{sym, ◌∙◌, arith}
+use Rattle.std.proofs.Common.{refl, sym, ◌∙◌, arith}
 use Rattle.std.proofs.lemmas.Bool.Decides.{nat_tests}
-use Rattle.x509_match.proofs.Fronts.{set_attributes}
+use Rattle.std.specs.Cmp.Lexicographic.{bytes_decides}
+use Rattle.x509_match.proofs.Fronts.{same_octets_match, set_attributes}
 use Rattle.x509_match.proofs.Partners.{lengths_apart}
 use Rattle.x509_match.proofs.lent.rdns_match.Goals as goal
 
@@ -24,3 +25,8 @@ returns-clause-same c = λ xs ys gx gy p q.
 
 pub returns-clause-plain : goal.returns-clause-plain
 returns-clause-plain c = λ xs ys gx gy p q plain others. c.counts_match.ensures.plain xs ys (set_attributes _ xs gx p) (set_attributes _ ys gy q) plain.1 others.1
+
+pub returns-then-eq-clause-same : goal.returns-then-eq-clause-same
+returns-then-eq-clause-same c = λ xs ys gx gy p q.
+    let same = (bytes_decides c.args.a.now c.args.b.now).0 (sym c.eq.ensures ∙ c.if-eq.true) in
+    (λ t. same_octets_match c.args.a.now xs ys gx gy p (same ∙ q), λ m. refl)
