@@ -53,6 +53,6 @@ flat_map-map g [] = refl
 flat_map-map g (x ∷ xs) = ap (λ l. rdn_key (g x) ++ l) (flat_map-map g xs)
 
 -- the key as the loop leaves it
-pub key_of_taken : {X : Type 0} (g : X → List ℕ) (xs : List X) (n : ℕ) (key : List ℕ) → length xs ≤ n → key ≡ flat_map (λ x. rdn_key (g x)) (take n xs) →
-    key ≡ directory_key (map g xs)
-key_of_taken g xs n key all is = is ∙ (ap (flat_map (λ x. rdn_key (g x))) (take_all n xs all) ∙ sym (flat_map-map g xs))
+pub key_of_taken : {X : Type 0} (g : X → List ℕ) (xs : List X) (n : ℕ) (start key : List ℕ) → length xs ≤ n →
+    key ≡ start ++ flat_map (λ x. rdn_key (g x)) (take n xs) → key ≡ start ++ directory_key (map g xs)
+key_of_taken g xs n start key all is = is ∙ ap (λ l. start ++ l) (ap (flat_map (λ x. rdn_key (g x))) (take_all n xs all) ∙ sym (flat_map-map g xs))

@@ -10,26 +10,6 @@ flat_map-push : {X : Type 0} (f : X → List (List ℕ)) (xs : List X) (x : X) �
 flat_map-push f [] x = append-nil (f x)
 flat_map-push f (y ∷ xs) x = ap (λ l. f y ++ l) (flat_map-push f xs x) ∙ sym (append_assoc (f y) (flat_map f xs) (f x))
 
-pub prefixes_more : (subtrees : List GeneralSubtree) (i : ℕ) (item : GeneralSubtree) (prefixes more own : List (List ℕ)) (form : ℕ) → i < length subtrees →
-    item ≡ get_or subtrees i item → prefixes ≡ prefixes_of (take i subtrees) → own ≡ own_prefixes item.base → form ≡ form_of item.base →
-    more ≡ prefixes ++ map (λ prefix. form ∷ prefix) own → more ≡ prefixes_of (take (i + 1) subtrees)
-prefixes_more subtrees i item prefixes more own form inside at so_far are is pushed =
-    let longer : take (i + 1) subtrees ≡ take i subtrees ++ item ∷ [] = take_more subtrees i item inside ∙ ap (λ z. take i subtrees ++ z ∷ []) (sym at) in
-    pushed ∙ (ap (λ l. l ++ map (λ prefix. form ∷ prefix) own) so_far
-    ∙ (ap (λ l. prefixes_of (take i subtrees) ++ map (λ prefix. form ∷ prefix) l) are
-    ∙ (ap (λ n. prefixes_of (take i subtrees) ++ map (λ prefix. n ∷ prefix) (own_prefixes item.base)) is
-    ∙ (sym (flat_map-push (λ subtree. base_prefixes subtree.base) (take i subtrees) item) ∙ ap prefixes_of (sym longer)))))
-
-pub excluded_more : (subtrees : List GeneralSubtree) (i : ℕ) (item : GeneralSubtree) (prefixes more own : List (List ℕ)) (form : ℕ) → i < length subtrees →
-    item ≡ get_or subtrees i item → prefixes ≡ excluded_prefixes (take i subtrees) → own ≡ own_excluded item.base → form ≡ form_of item.base →
-    more ≡ prefixes ++ map (λ prefix. form ∷ prefix) own → more ≡ excluded_prefixes (take (i + 1) subtrees)
-excluded_more subtrees i item prefixes more own form inside at so_far are is pushed =
-    let longer : take (i + 1) subtrees ≡ take i subtrees ++ item ∷ [] = take_more subtrees i item inside ∙ ap (λ z. take i subtrees ++ z ∷ []) (sym at) in
-    pushed ∙ (ap (λ l. l ++ map (λ prefix. form ∷ prefix) own) so_far
-    ∙ (ap (λ l. excluded_prefixes (take i subtrees) ++ map (λ prefix. form ∷ prefix) l) are
-    ∙ (ap (λ n. excluded_prefixes (take i subtrees) ++ map (λ prefix. n ∷ prefix) (own_excluded item.base)) is
-    ∙ (sym (flat_map-push (λ subtree. excluded_by subtree.base) (take i subtrees) item) ∙ ap excluded_prefixes (sym longer)))))
-
 -- one more item of a list of which each has some keys
 pub gather_more : {X : Type 0} (f : X → List (List ℕ)) (xs : List X) (i : ℕ) (item : X) (start so_far more : List (List ℕ)) → i < length xs →
     item ≡ get_or xs i item → so_far ≡ start ++ flat_map f (take i xs) → more ≡ so_far ++ f item → more ≡ start ++ flat_map f (take (i + 1) xs)

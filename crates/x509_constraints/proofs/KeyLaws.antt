@@ -250,6 +250,13 @@ pub dns_answers : (name subtree : List ℕ) → (has_prefix (dns_prefixes subtre
 dns_answers name subtree = key_if-answers (is_host_or_wildcard name) (dns_prefixes subtree) (stopped name) subtree (IsHostOf name subtree ⊎ EndsWith name (dot ∷ subtree))
     (λ has. dns_answers_both name subtree) (dns_answers_none subtree)
 
+-- one more octet in front of a host
+pub turned_pushed : (host : List ℕ) (c s : ℕ) (start key pushed : List ℕ) → key ≡ start ++ turned host → s ≡ to_ascii_lowercase c + 1 →
+    pushed ≡ key ++ s ∷ [] → pushed ≡ start ++ turned (c ∷ host)
+turned_pushed host c s start key pushed is is_symbol by =
+    by ∙ (ap (λ l. l ++ s ∷ []) is ∙ (append_assoc start (turned host) (s ∷ [])
+    ∙ ap (λ l. start ++ l) (ap (λ t. turned host ++ t ∷ []) is_symbol ∙ sym (turned-cons c host))))
+
 -- one more octet of a host, from its end
 pub turned_more : (host : List ℕ) (left next : ℕ) (key start : List ℕ) (s : ℕ) → left < length host → next ≡ left + 1 →
     s ≡ to_ascii_lowercase (get_or host left 0) + 1 →
@@ -257,8 +264,7 @@ pub turned_more : (host : List ℕ) (left next : ℕ) (key start : List ℕ) (s 
 turned_more host left next key start s inside after is_symbol is =
     let front : drop left host ≡ get_or host left 0 ∷ drop next host = drop-cons host left 0 inside
     ∙ ap (λ m. get_or host left 0 ∷ drop m host) (sym (after ∙ add-one left)) in
-    ap (λ l. l ++ s ∷ []) is ∙ (append_assoc start (turned (drop next host)) (s ∷ [])
-    ∙ ap (λ l. start ++ l) (ap (λ c. turned (drop next host) ++ c ∷ []) is_symbol ∙ sym (ap turned front ∙ turned-cons (get_or host left 0) (drop next host))))
+    turned_pushed (drop next host) (get_or host left 0) s start key (key ++ s ∷ []) is is_symbol refl ∙ ap (λ l. start ++ turned l) (sym front)
 
 pub turned_none : (host start : List ℕ) → start ≡ start ++ turned (drop (length host) host)
 unfolding turned

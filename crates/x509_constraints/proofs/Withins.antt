@@ -70,16 +70,10 @@ own_answers _ _ keyed same = absurd (omega (arith, same))
 
 own_excluded_answers : (name base : GeneralName) → IsKeyed name → form_of name ≡ form_of base →
     (has_prefix (own_excluded base) (own_key name) ≡ true) ↔ IsExcluded name base
-own_excluded_answers (OtherName n) (OtherName b) keyed same = never
-own_excluded_answers (Rfc822Name n) (Rfc822Name b) keyed same = email_answers n b
 own_excluded_answers (DnsName n) (DnsName b) keyed same = excluded_dns_answers n b
-own_excluded_answers (DirectoryName n) (DirectoryName b) keyed same =
-    has_prefix-one (distinguished_key n) (distinguished_key b) (BeginsWith n b) (distinguished_answers n b)
-own_excluded_answers (EdiPartyName n) (EdiPartyName b) keyed same = never
-own_excluded_answers (UniformResourceIdentifier n) (UniformResourceIdentifier b) keyed same = uri_answers b (host_of n) (keyed refl)
-own_excluded_answers (IpAddress n) (IpAddress b) keyed same = address_answers n b
-own_excluded_answers (RegisteredId n) (RegisteredId b) keyed same = never
-own_excluded_answers _ _ keyed same = absurd (omega (arith, same))
+own_excluded_answers (DnsName n) _ keyed same = absurd (omega (arith, same))
+own_excluded_answers _ (DnsName b) keyed same = absurd (omega (arith, same))
+own_excluded_answers name base keyed same = own_answers name base keyed same
 
 -- what is within a subtree has its form
 pub within_form : (name base : GeneralName) → IsWithin name base → form_of base ≡ form_of name
@@ -91,12 +85,8 @@ within_form (IpAddress n) (IpAddress b) h = refl
 within_form _ _ h = absurd h
 
 pub excluded_form : (name base : GeneralName) → IsExcluded name base → form_of base ≡ form_of name
-excluded_form (Rfc822Name n) (Rfc822Name b) h = refl
 excluded_form (DnsName n) (DnsName b) h = refl
-excluded_form (DirectoryName n) (DirectoryName b) h = refl
-excluded_form (UniformResourceIdentifier n) (UniformResourceIdentifier b) h = refl
-excluded_form (IpAddress n) (IpAddress b) h = refl
-excluded_form _ _ h = absurd h
+excluded_form name base h = within_form name base h
 
 pub unclear_form : (name base : GeneralName) → IsUnclear name base → form_of base ≡ form_of name
 unclear_form (DirectoryName n) (DirectoryName b) h = refl
@@ -118,8 +108,5 @@ without_host uri base (Some host) nothing h = absurd (cc)
 
 pub no_host_within : (name base : GeneralName) → form_of name ≡ 6 → is_comparable name ≡ false → IsWithin name base → ⊥
 no_host_within (UniformResourceIdentifier n) (UniformResourceIdentifier b) is nothing h = without_host n b (host_of n) nothing h
-no_host_within (Rfc822Name n) (Rfc822Name b) is nothing h = absurd (omega (arith, is))
-no_host_within (DnsName n) (DnsName b) is nothing h = absurd (omega (arith, is))
-no_host_within (DirectoryName n) (DirectoryName b) is nothing h = absurd (omega (arith, is))
-no_host_within (IpAddress n) (IpAddress b) is nothing h = absurd (omega (arith, is))
-no_host_within _ _ is nothing h = h
+no_host_within (UniformResourceIdentifier n) _ is nothing h = h
+no_host_within _ _ is nothing h = absurd (omega (arith, is))

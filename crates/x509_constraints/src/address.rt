@@ -1,6 +1,6 @@
 //! IP addresses (RFC 5280 4.2.1.10).
 
-ghost use Rattle.std.specs.Prelude.{◌≡◌, ◌≤◌, ◌+◌, ◌++◌, ◌∷◌, IfOk, OnOk, length, take};
+ghost use Rattle.std.specs.Prelude.{◌≡◌, ◌≤◌, ◌+◌, ◌++◌, ◌∷◌, OnOk, length, map, take};
 ghost use Rattle.x509_constraints.specs.Address as addresses;
 ghost use Rattle.x509_constraints.specs.AddressKeys as address_keys;
 ghost use Rattle.x509_constraints.specs.AddressKeys.{address_key, address_prefix, address_prefixes, narrowed, octet_symbols, spread};
@@ -120,55 +120,53 @@ fn push_spread(key: &mut Key, name: &[u8]) -> Result<(), AllocError>
     Ok(())
 }
 
-/// The prefix of the addresses of that length that are within the subtree.
-fn prefix_of_addresses(alloc: Global, half: u16, subtree: &[u8]) -> Result<Key, AllocError>
+/// Adds the prefix of the addresses of that length that are within the subtree.
+fn push_address_prefix(key: &mut Key, half: u16, subtree: &[u8]) -> Result<(), AllocError>
     requires { length subtree.now ≡ half + half }
-    ensures { IfOk result (λ key. key ≡ address_prefix half subtree.now) }
+    ensures { OnOk result (key.new ≡ key.old ++ address_prefix half subtree.now) }
 {
-    let mut key = Key::new(alloc);
     key.push(half)?;
     let (address, mask) = subtree.split_at(usize::from(half));
-    push_narrowed(&mut key, address, mask)?;
-    Ok(key)
+    push_narrowed(key, address, mask)
 }
 
-/// The key of an address of that length.
-fn key_of_address(alloc: Global, len: u16, name: &[u8]) -> Result<Key, AllocError>
-    ensures { IfOk result (λ key. key ≡ len ∷ spread name.now) }
+/// Adds the key of an address of that length.
+fn push_address(key: &mut Key, len: u16, name: &[u8]) -> Result<(), AllocError>
+    ensures { OnOk result (key.new ≡ key.old ++ len ∷ spread name.now) }
 {
-    let mut key = Key::new(alloc);
     key.push(len)?;
-    push_spread(&mut key, name)?;
-    Ok(key)
+    push_spread(key, name)
 }
 
-/// The key of an IP address.
-pub(crate) fn key_of_ip(alloc: Global, name: &[u8]) -> Result<Key, AllocError>
-    ensures { IfOk result (λ key. key ≡ address_key name.now) }
+/// Adds the key of an IP address.
+pub(crate) fn push_ip(key: &mut Key, name: &[u8]) -> Result<(), AllocError>
+    ensures { OnOk result (key.new ≡ key.old ++ address_key name.now) }
 {
     match name.len() {
-        4 => key_of_address(alloc, 4, name),
-        16 => key_of_address(alloc, 16, name),
-        _ => Ok(Key::new(alloc)),
+        4 => push_address(key, 4, name),
+        16 => push_address(key, 16, name),
+        _ => Ok(()),
     }
 }
 
 /// Adds the prefix of the IP addresses that are within the subtree, if it is one.
 pub(crate) fn push_ip_prefixes(
     alloc: Global,
+    form: u16,
     prefixes: &mut Vec<Key>,
     subtree: &[u8],
 ) -> Result<(), AllocError>
-    ensures { OnOk result (prefixes.new.items ≡ prefixes.old.items ++ address_prefixes subtree.now) }
+    ensures { OnOk result (prefixes.new.items ≡ prefixes.old.items ++ map (λ prefix. form ∷ prefix) (address_prefixes subtree.now)) }
 {
     if !is_address_subtree(subtree) {
         return Ok(());
     }
-    let prefix = if subtree.len() == 8 {
-        prefix_of_addresses(alloc, 4, subtree)?
+    let mut prefix = Key::of_form(alloc, form)?;
+    if subtree.len() == 8 {
+        push_address_prefix(&mut prefix, 4, subtree)?;
     } else {
-        prefix_of_addresses(alloc, 16, subtree)?
-    };
+        push_address_prefix(&mut prefix, 16, subtree)?;
+    }
     prefixes.push(prefix)?;
     Ok(())
 }

@@ -7,8 +7,8 @@ ghost use Rattle.x509_constraints.specs.Keys.{symbols};
 ghost use Rattle.x509_constraints.specs.SubtreeKeys.{distinguished_key, in_order, rdn_octets};
 ghost use Rattle.x509_match.specs.Keys.{attribute_key};
 
+use crate::host_keys::STOP;
 use crate::key::Key;
-use crate::turned::STOP;
 use std::alloc::{AllocError, Global};
 use x509_match::attribute_key;
 use x509_name::attr::AttributeTypeAndValue;
@@ -32,7 +32,7 @@ fn attribute_keys(
     Ok(keys)
 }
 
-/// The same in ascending order.
+/// The octets that each attribute of the RDN is compared by, in ascending order.
 fn keys_in_order(alloc: Global, rdn: &RelativeDistinguishedName) -> Result<Vec<Vec<u8>>, AllocError>
     ensures { IfOk result (λ keys. map (λ key. key.items) keys.items ≡ in_order (map attribute_key rdn.now)) }
 {
@@ -70,14 +70,13 @@ fn push_rdn(alloc: Global, key: &mut Key, rdn: &RelativeDistinguishedName) -> Re
     key.push(STOP)
 }
 
-/// The key of a name.
-pub(crate) fn key_of_name(alloc: Global, name: &Name) -> Result<Key, AllocError>
-    ensures { IfOk result (λ key. key ≡ distinguished_key name.now) }
+/// Adds the key of a name.
+pub(crate) fn push_name(alloc: Global, key: &mut Key, name: &Name) -> Result<(), AllocError>
+    ensures { OnOk result (key.new ≡ key.old ++ distinguished_key name.now) }
 {
     let rdns: &[RelativeDistinguishedName] = name.as_ref().as_slice();
-    let mut key = Key::new(alloc);
     for rdn in rdns {
-        push_rdn(alloc, &mut key, rdn)?;
+        push_rdn(alloc, key, rdn)?;
     }
-    Ok(key)
+    Ok(())
 }

@@ -1,14 +1,14 @@
 //! Addresses of e-mail (RFC 5280 4.2.1.10).
 
-ghost use Rattle.std.specs.Prelude.{◌≡◌, ◌++◌, ◌∷◌, [], false, IfOk, OnOk, MatchOption, None, Some};
+ghost use Rattle.std.specs.Prelude.{◌≡◌, ◌++◌, ◌∷◌, [], false, OnOk, MatchOption, None, Some};
 ghost use Rattle.std.specs.List.{list_all};
 ghost use Rattle.x509_constraints.specs.Email as emails;
 ghost use Rattle.x509_constraints.specs.Email.{email_key, email_key_at, email_prefix, mailbox_key, mailbox_of, said};
 ghost use Rattle.x509_constraints.specs.Keys.{stop, symbols};
 
+use crate::host_keys::{STOP, push_host_prefix, push_turned, symbol};
 use crate::key::Key;
-use crate::turned::{STOP, prefix_of_hosts, push_turned, symbol};
-use std::alloc::{AllocError, Global};
+use std::alloc::AllocError;
 use x509_host::is_host;
 
 /// What stands before the last '@' and what behind it, if there is one.
@@ -128,44 +128,42 @@ fn push_said(key: &mut Key, local: &[u8]) -> Result<(), AllocError>
     push_stopped(key, local)
 }
 
-/// The key of a mailbox.
-fn key_of_mailbox(alloc: Global, local: &[u8], host: &[u8]) -> Result<Key, AllocError>
-    ensures { IfOk result (λ key. key ≡ mailbox_key local.now host.now) }
+/// Adds the key of a mailbox.
+fn push_mailbox(key: &mut Key, local: &[u8], host: &[u8]) -> Result<(), AllocError>
+    ensures { OnOk result (key.new ≡ key.old ++ mailbox_key local.now host.now) }
 {
-    let mut key = Key::new(alloc);
-    push_turned(&mut key, host)?;
+    push_turned(key, host)?;
     key.push(STOP)?;
-    push_said(&mut key, local)?;
-    Ok(key)
+    push_said(key, local)
 }
 
-/// The key of what stands before and behind the last '@'.
-fn key_of_parts(alloc: Global, name: &[u8]) -> Result<Key, AllocError>
-    ensures { IfOk result (λ key. key ≡ email_key_at (mailbox_of name.now)) }
+/// Adds the key of what stands before and behind the last '@'.
+fn push_parts(key: &mut Key, name: &[u8]) -> Result<(), AllocError>
+    ensures { OnOk result (key.new ≡ key.old ++ email_key_at (mailbox_of name.now)) }
 {
     match split_mailbox(name) {
-        Some((local, host)) => key_of_mailbox(alloc, local, host),
-        None => Ok(Key::new(alloc)),
+        Some((local, host)) => push_mailbox(key, local, host),
+        None => Ok(()),
     }
 }
 
-/// The key of an address of e-mail.
-pub(crate) fn key_of_email(alloc: Global, name: &[u8]) -> Result<Key, AllocError>
-    ensures { IfOk result (λ key. key ≡ email_key name.now) }
+/// Adds the key of an address of e-mail.
+pub(crate) fn push_email(key: &mut Key, name: &[u8]) -> Result<(), AllocError>
+    ensures { OnOk result (key.new ≡ key.old ++ email_key name.now) }
 {
     if is_mailbox(name) {
-        key_of_parts(alloc, name)
+        push_parts(key, name)
     } else {
-        Ok(Key::new(alloc))
+        Ok(())
     }
 }
 
-/// The prefix of the addresses that are within the subtree.
-pub(crate) fn prefix_of_emails(alloc: Global, subtree: &[u8]) -> Result<Key, AllocError>
-    ensures { IfOk result (λ key. key ≡ email_prefix subtree.now) }
+/// Adds the prefix of the addresses that are within the subtree.
+pub(crate) fn push_email_prefix(key: &mut Key, subtree: &[u8]) -> Result<(), AllocError>
+    ensures { OnOk result (key.new ≡ key.old ++ email_prefix subtree.now) }
 {
     match split_mailbox(subtree) {
-        Some((local, host)) => key_of_mailbox(alloc, local, host),
-        None => prefix_of_hosts(alloc, subtree),
+        Some((local, host)) => push_mailbox(key, local, host),
+        None => push_host_prefix(key, subtree),
     }
 }

@@ -32,6 +32,15 @@ impl Key {
         }
     }
 
+    /// A key of the form, behind which a name's own symbols stand.
+    pub(crate) fn of_form(alloc: Global, form: u16) -> Result<Key, AllocError>
+        ensures { IfOk result (λ key. key ≡ form ∷ []) }
+    {
+        let mut key = Key::new(alloc);
+        key.push(form)?;
+        Ok(key)
+    }
+
     /// Adds a symbol at the end.
     ///
     /// # Errors
@@ -51,15 +60,6 @@ impl Key {
         self.symbols
             .as_slice()
             .starts_with(other.symbols.as_slice())
-    }
-
-    /// The key behind another symbol.
-    pub(crate) fn behind(self, symbol: u16) -> Result<Key, AllocError>
-        ensures { IfOk result (λ key. key ≡ symbol ∷ self) }
-    {
-        let Key { mut symbols } = self;
-        symbols.insert(0, symbol)?;
-        Ok(Key { symbols })
     }
 
     /// Whether the key is at or before the other in the order.

@@ -7,14 +7,15 @@ mod address;
 mod comparable;
 mod distinguished;
 mod email;
-mod gathered;
+mod form;
+mod host_keys;
 mod key;
 mod marks;
 mod merging;
 mod prefixes;
 mod sets;
 mod stacks;
-mod turned;
+mod subtree_keys;
 mod uri;
 mod usable;
 

@@ -6,14 +6,17 @@ ghost use Rattle.x509_constraints.specs.Constraints as constraints;
 ghost use Rattle.x509_constraints.specs.Notes.{notes};
 ghost use Rattle.x509_constraints.specs.SubtreeKeys as keys;
 
-use crate::comparable::{is_comparable, key_of};
-use crate::distinguished::key_of_name;
-use crate::email::{is_mailbox, key_of_email};
-use crate::gathered::{add_excluded, add_permitted, form_of, has_form};
+use crate::comparable::{is_comparable, key_of, key_of_directory_name, key_of_email};
+use crate::email::is_mailbox;
+use crate::form::{
+    DIRECTORY_NAME, DNS_NAME, EDI_PARTY_NAME, FORMS, IP_ADDRESS, OTHER_NAME, REGISTERED_ID,
+    RFC822_NAME, URI, X400_ADDRESS, form_of, has_form,
+};
 use crate::key::Key;
 use crate::marks::{add_marks, has_marks, has_marks_in_name};
 use crate::prefixes::Prefixes;
 use crate::stacks::{in_all, in_some};
+use crate::subtree_keys::{add_excluded, add_permitted};
 use crate::usable::has_unusable;
 use std::alloc::{AllocError, Global};
 use x509_der::Tag;
@@ -23,9 +26,6 @@ use x509_ext::pkix::{NameConstraints, SubjectAltName};
 use x509_name::attr::AttributeTypeAndValue;
 use x509_name::attr::attribute_types::EMAIL_ADDRESS;
 use x509_name::name::{Name, RelativeDistinguishedName};
-
-/// The form of URIs.
-const URI: u16 = 6;
 
 /// The name constraints that apply to a certificate: the initial ones, and those of the certificates above it. They are
 /// kept as sorted sets of keys, so that a name is asked by a few searches. To apply n subtrees takes O(n log n) steps or a
@@ -37,9 +37,9 @@ pub struct ConstraintSets {
 
     /// Of excluded directory names, what keeps away attributes that can't be compared.
     marks: Vec<Prefixes>,
-    constrained: [bool; 9],
-    excluding: [bool; 9],
-    unusable: [bool; 9],
+    constrained: [bool; FORMS],
+    excluding: [bool; FORMS],
+    unusable: [bool; FORMS],
     is_whole: bool,
 }
 
@@ -101,27 +101,33 @@ fn is_noted(note: Note, form: u16, constraints: &NameConstraints) -> bool
 }
 
 /// Whether it is noted of the form with this set too.
-fn is_noted_now(before: bool, note: Note, form: u16, constraints: &NameConstraints) -> bool
-    ensures { result ≡ (before || notes note form constraints.now) }
+fn is_noted_with(
+    before: &[bool; FORMS],
+    note: Note,
+    form: u16,
+    constraints: &NameConstraints,
+) -> bool
+    requires { form < 9 }
+    ensures { result ≡ (slice_index_or before.now form false || notes note form constraints.now) }
 {
-    before || is_noted(note, form, constraints)
+    before[usize::from(form)] || is_noted(note, form, constraints)
 }
 
 /// The forms of which it is noted with this set too.
-fn noted_with(before: &[bool; 9], note: Note, constraints: &NameConstraints) -> [bool; 9]
+fn noted_with(before: &[bool; FORMS], note: Note, constraints: &NameConstraints) -> [bool; FORMS]
     ensures { (form : ℕ) → form < 9 → slice_index_or result form false
         ≡ (slice_index_or before.now form false || notes note form constraints.now) }
 {
     [
-        is_noted_now(before[0], note, 0, constraints),
-        is_noted_now(before[1], note, 1, constraints),
-        is_noted_now(before[2], note, 2, constraints),
-        is_noted_now(before[3], note, 3, constraints),
-        is_noted_now(before[4], note, 4, constraints),
-        is_noted_now(before[5], note, 5, constraints),
-        is_noted_now(before[6], note, 6, constraints),
-        is_noted_now(before[7], note, 7, constraints),
-        is_noted_now(before[8], note, 8, constraints),
+        is_noted_with(before, note, OTHER_NAME, constraints),
+        is_noted_with(before, note, RFC822_NAME, constraints),
+        is_noted_with(before, note, DNS_NAME, constraints),
+        is_noted_with(before, note, X400_ADDRESS, constraints),
+        is_noted_with(before, note, DIRECTORY_NAME, constraints),
+        is_noted_with(before, note, EDI_PARTY_NAME, constraints),
+        is_noted_with(before, note, URI, constraints),
+        is_noted_with(before, note, IP_ADDRESS, constraints),
+        is_noted_with(before, note, REGISTERED_ID, constraints),
     ]
 }
 
@@ -159,9 +165,9 @@ impl ConstraintSets {
             permitted: Vec::new(alloc),
             excluded: Vec::new(alloc),
             marks: Vec::new(alloc),
-            constrained: [false; 9],
-            excluding: [false; 9],
-            unusable: [false; 9],
+            constrained: [false; FORMS],
+            excluding: [false; FORMS],
+            unusable: [false; FORMS],
             is_whole: true,
         }
     }
@@ -266,14 +272,13 @@ impl ConstraintSets {
     fn allows_subject(&self, alloc: Global, subject: &Name) -> Result<bool, AllocError>
         ensures { (sets : List NameConstraints) → AreApplied self.now sets → IfOk result (λ b. IsTrue b ↔ IsAllowed sets (DirectoryName subject.now)) }
     {
-        match self.known(4, true) {
+        match self.known(DIRECTORY_NAME, true) {
             Some(known) => Ok(known),
             None => {
                 if has_marks_in_name(alloc, self.marks.as_slice(), subject)? {
                     return Ok(false);
                 }
-                let own = key_of_name(alloc, subject)?;
-                let key = own.behind(4)?;
+                let key = key_of_directory_name(alloc, subject)?;
                 Ok(self.allows_key(&key))
             }
         }
@@ -283,11 +288,10 @@ impl ConstraintSets {
     fn allows_email(&self, alloc: Global, address: &[u8]) -> Result<bool, AllocError>
         ensures { (sets : List NameConstraints) → AreApplied self.now sets → IfOk result (λ b. IsTrue b ↔ IsAllowed sets (Rfc822Name address.now)) }
     {
-        match self.known(1, is_mailbox(address)) {
+        match self.known(RFC822_NAME, is_mailbox(address)) {
             Some(known) => Ok(known),
             None => {
-                let own = key_of_email(alloc, address)?;
-                let key = own.behind(1)?;
+                let key = key_of_email(alloc, address)?;
                 Ok(self.allows_key(&key))
             }
         }

@@ -7,7 +7,7 @@ ghost use Rattle.x509_constraints.specs.Constraints.{IsUsable};
 
 use crate::address::is_address_subtree;
 use crate::email::{is_mailbox, split_mailbox};
-use crate::gathered::form_of;
+use crate::form::form_of;
 use crate::uri::is_named;
 use x509_ext::pkix::NameConstraints;
 use x509_ext::pkix::constraints::name::{GeneralSubtree, GeneralSubtrees};

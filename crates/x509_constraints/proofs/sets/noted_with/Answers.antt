@@ -5,6 +5,6 @@ use Rattle.x509_constraints.proofs.sets.noted_with.Goals as goal
 
 pub returns : goal.returns
 returns c =
-    nine _ _ _ _ _ _ _ _ _ (λ form. slice_index_or c.args.before.now form false || notes c.args.note form c.args.constraints.now) c.is_noted_now.ensures
-    c.is_noted_now-2.ensures c.is_noted_now-3.ensures c.is_noted_now-4.ensures c.is_noted_now-5.ensures c.is_noted_now-6.ensures
-    c.is_noted_now-7.ensures c.is_noted_now-8.ensures c.is_noted_now-9.ensures
+    nine _ _ _ _ _ _ _ _ _ (λ form. slice_index_or c.args.before.now form false || notes c.args.note form c.args.constraints.now) c.is_noted_with.ensures
+    c.is_noted_with-2.ensures c.is_noted_with-3.ensures c.is_noted_with-4.ensures c.is_noted_with-5.ensures c.is_noted_with-6.ensures
+    c.is_noted_with-7.ensures c.is_noted_with-8.ensures c.is_noted_with-9.ensures

@@ -1,4 +1,4 @@
-use Rattle.std.proofs.Common.{◌∷◌, ◌∙◌, ap, refl}
+use Rattle.std.proofs.Common.{◌∙◌, ap, refl}
 use Rattle.std.specs.List.{list_any}
 use Rattle.x509_ext.specs.declared.pkix.name.general_name.GeneralName.TheVariants.{DirectoryName}
 use Rattle.x509_constraints.specs.Marks.{name_marks}
@@ -23,7 +23,7 @@ returns-in_ok-key-in-None c sets applied =
     (in_all c.args.self.now.permitted.items c.in_ok-key-in-None.key)
     (in_some c.args.self.now.excluded.items c.in_ok-key-in-None.key) c.in_ok-has_marks_in_name-in-None.field-0
     (c.in-None.ensures sets (DirectoryName c.args.subject.now) applied refl refl)
-    (c.in_ok-key-in-None.ensures ∙ ap (λ k. 4 ∷ k) c.in_ok-own-in-None.ensures)
+    c.in_ok-key-in-None.ensures
     (applied.permitted c.in_ok-key-in-None.key) (applied.excluded c.in_ok-key-in-None.key)
     (c.in_ok-has_marks_in_name-in-None.ensures ∙ (ap (λ s. list_any (in_some s) (name_marks 0 c.args.subject.now)) c.as_slice.ensures.value
     ∙ any_alike _ _ (name_marks 0 c.args.subject.now) applied.marks)) c.if-branch.false c.allows_key.ensures

@@ -1,7 +1,7 @@
 use Rattle.std.proofs.Common.{◌+◌, ◌-◌, ◌∙◌, arith}
 use Rattle.std.proofs.Common.{ap}
 use Rattle.x509_constraints.proofs.KeyLaws.{turned_more, turned_none}
-use Rattle.x509_constraints.proofs.turned.push_turned.Goals as goal
+use Rattle.x509_constraints.proofs.host_keys.push_turned.Goals as goal
 
 pub loop-left-init : goal.loop-left-init
 loop-left-init c = (omega arith, turned_none c.args.host.now c.args.key.now)

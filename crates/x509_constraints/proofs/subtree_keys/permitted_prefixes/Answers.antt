@@ -1,6 +1,6 @@
 use Rattle.x509_constraints.specs.SubtreeKeys.{prefixes_of}
 use Rattle.x509_constraints.proofs.Gathering.{open_more}
-use Rattle.x509_constraints.proofs.gathered.permitted_prefixes.Goals as goal
+use Rattle.x509_constraints.proofs.subtree_keys.permitted_prefixes.Goals as goal
 
 pub loop-form-preserved : goal.loop-form-preserved
 loop-form-preserved c =
