@@ -18,7 +18,7 @@ use Rattle.x509_der.specs.Frames.{fields_good}
 use Rattle.x509_der.specs.SpellingLaws.{one_spelled}
 use Rattle.x509_der.specs.declared.error.ErrorKind.{ErrorKind}
 use Rattle.x509_name.specs.declared.attr.type_and_value.AttributeTypeAndValue.{AttributeTypeAndValue}
-use Rattle.x509_name.specs.Names.{name, rdn_sequence_decides, rdn_sequence_eq, rdn_sequence_lawful}
+use Rattle.x509_name.specs.Names.{name, rdn_sequence_lawful}
 use Rattle.x509_path.specs.Certificates.{Certificate}
 use Rattle.x509_prim.specs.BitString.{bit_string}
 
@@ -110,8 +110,8 @@ module _ (c : Certificate) (bytes : List ℕ) (spells : Spells rfc5280_certifica
   pub two_algorithms : (x y : List ℕ) → x ≡ spelling algorithm_identifier c.tbs_certificate.signature → y ≡ spelling algorithm_identifier c.signature_algorithm → IsTrue (not (bytes_eq x y)) ↔ (c.tbs_certificate.signature ≢ c.signature_algorithm)
   two_algorithms x y is so = differ _ (same_bytes algorithm_identifier algorithm_identifier_lawful _ _ inner_good outer_good x y is so)
 
-  pub self_issued : (x y : List ℕ) → x ≡ spelling name c.tbs_certificate.subject → y ≡ spelling name c.tbs_certificate.issuer → bytes_eq x y ≡ rdn_sequence_eq c.tbs_certificate.subject c.tbs_certificate.issuer
-  self_issued x y is so = one_test _ _ (same_bytes name rdn_sequence_lawful _ _ subject_good issuer_good x y is so) (rdn_sequence_decides _ _)
+  pub self_issued : (x y : List ℕ) → x ≡ spelling name c.tbs_certificate.subject → y ≡ spelling name c.tbs_certificate.issuer → (bytes_eq x y ≡ true) ↔ (c.tbs_certificate.subject ≡ c.tbs_certificate.issuer)
+  self_issued x y is so = same_bytes name rdn_sequence_lawful _ _ subject_good issuer_good x y is so
 
   pub other_issuer : (x y : List ℕ) (above : List (List AttributeTypeAndValue)) → x ≡ spelling name c.tbs_certificate.issuer → Spells name above y → IsTrue (not (bytes_eq x y)) ↔ (c.tbs_certificate.issuer ≢ above)
   other_issuer x y above is so = differ _ (same_bytes name rdn_sequence_lawful _ _ issuer_good so.0 x y is so.1)

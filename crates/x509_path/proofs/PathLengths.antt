@@ -1,95 +1,125 @@
--- How many certificates may follow a certificate.
-use Rattle.std.proofs.Common.{◌≡◌, ◌↔◌, ◌⊎◌, ℕ, ◌<◌, ◌+◌, ◌-◌, Bool, true, false, not, cond, min, List, [], ◌∷◌, ◌++◌, Option, Some, None, refl, inl, inr, arith, append_assoc}
-use Rattle.std.proofs.lemmas.Bool.{cases_lt}
-use Rattle.std.proofs.lemmas.List.Sums.{sum_by-cons}
-use Rattle.x509_ext.specs.declared.extension.Extension.{Extension}
-use Rattle.x509_path.specs.Certificates.{Certificate, extensions_of, HasPathLen, count_not_self_issued, is_self_issued, IsTooLong}
-use Rattle.x509_path.specs.PathLength.{IsOver, Leaves, narrowed}
+-- How many certificates may follow that aren't self-issued.
+use Rattle.std.proofs.Common.{◌≡◌, ◌↔◌, ◌⊎◌, ◌∙◌, ℕ, zero, suc, ◌≤◌, ◌-◌, Bool, true, false, min, List, [], ◌∷◌, ◌++◌, Option, Some, None, inl, inr, refl, subst, sym, arith, append_assoc}
+use Rattle.std.proofs.Math.Nat.{eq-or-lt_of_le}
+use Rattle.std.proofs.lemmas.Bool.{cases_lt, true≢false}
+use Rattle.std.specs.Bool.{IsTrue}
+use Rattle.x509_path.specs.Certificates.{Certificate, HasOthers, HasPathLen, IsOver, IsSelfIssued, IsTooLong, Sameness, extensions_of}
+use Rattle.x509_path.specs.PathLength.{AreTooMany, Leaves, narrowed}
 
--- without a limit above
-pub free : Leaves [] None
-free more = ((λ deep. inr deep), elim [ inl over ↦ absurd over | inr deep ↦ deep ])
+module _ (Same : Sameness) where
+  fewer : (n : ℕ) (cs : List Certificate) → HasOthers Same (suc n) cs → HasOthers Same n cs
+  fewer zero cs h = tt
+  fewer (suc n) [] h = absurd h
+  fewer (suc n) (c ∷ cs) (inl (other, more)) = inl (other, fewer n cs more)
+  fewer (suc n) (c ∷ cs) (inr more) = inr (fewer (suc n) cs more)
 
-none_alone : (c : Certificate) → IsTooLong (c ∷ []) → ⊥
-none_alone c (inl (k, limit, less)) = omega (arith, less)
-none_alone c (inr deep) = deep
+  at_least : (m n : ℕ) (cs : List Certificate) → m ≤ n → HasOthers Same n cs → HasOthers Same m cs
+  at_least m zero cs le h = let e : m ≡ 0 = omega (arith, le) in subst (λ k. HasOthers Same k cs) (sym e) tt
+  at_least m (suc n) cs le h = elim (eq-or-lt_of_le le) [
+    | inl same ↦ subst (λ k. HasOthers Same k cs) (sym same) h
+    | inr less ↦ at_least m n cs (omega (arith, less)) (fewer n cs h)
+  ]
 
--- the certificate behind them is too deep exactly where there is no max_path_length for it
-pub too_long : (before : List Certificate) (max_path_length : Option ℕ) (c : Certificate) → Leaves before max_path_length → IsTooLong (before ++ c ∷ []) ↔ IsOver max_path_length (c ∷ [])
-too_long before max_path_length c leaves = (
-  (λ deep. elim ((leaves (c ∷ [])).0 deep) [ inl over ↦ over | inr alone ↦ absurd (none_alone c alone) ]),
-  (λ over. (leaves (c ∷ [])).1 (inl over)),
-)
+  lowest : (a b : ℕ) (cs : List Certificate) → (IsOver Same (Some a) cs ⊎ IsOver Same (Some b) cs) ↔ IsOver Same (Some (min a b)) cs
+  lowest a b cs = (
+    elim [ inl h ↦ at_least (suc (min a b)) (suc a) cs (omega arith) h | inr h ↦ at_least (suc (min a b)) (suc b) cs (omega arith) h ],
+    (λ h. elim (cases_lt a b) [
+      | inl less ↦ inl (at_least (suc a) (suc (min a b)) cs (omega (arith, less)) h)
+      | inr more ↦ inr (at_least (suc b) (suc (min a b)) cs (omega (arith, more)) h)
+    ]),
+  )
 
--- ---- numbers in place of certificates
+  -- ---- along a path
 
-abbrev Over : Option ℕ → ℕ → Type 0
-Over None n = ⊥
-Over (Some max_path_length) n = max_path_length < n
+  none_alone : (c : Certificate) → IsTooLong Same (c ∷ []) → ⊥
+  none_alone c (inl (k, limit, over)) = over
+  none_alone c (inr deep) = deep
 
-over_is : (max_path_length : Option ℕ) (cs : List Certificate) → IsOver max_path_length cs ↔ Over max_path_length (count_not_self_issued cs)
-over_is None cs = ((λ h. h), (λ h. h))
-over_is (Some max_path_length) cs = ((λ h. h), (λ h. h))
+  -- with the certificate there are too many exactly where it may not follow
+  pub too_many : (limit : Option ℕ) (before : List Certificate) (max_path_length : Option ℕ) (c : Certificate) → Leaves Same limit before max_path_length → AreTooMany Same limit (before ++ c ∷ []) ↔ IsOver Same max_path_length (c ∷ [])
+  too_many limit before max_path_length c leaves = (
+    (λ many. elim ((leaves (c ∷ [])).0 many) [ inl over ↦ over | inr deep ↦ absurd (none_alone c deep) ]),
+    (λ over. (leaves (c ∷ [])).1 (inl over)),
+  )
 
-abbrev counts : Bool → ℕ
-counts own = cond (not own) 1 0
+  module _ (c : Certificate) (own : Bool) (is : IsTrue own ↔ IsSelfIssued Same c) where
+    other : own ≡ false → IsSelfIssued Same c → ⊥
+    other isnt so = true≢false (sym (is.1 so) ∙ isnt)
 
-count-cons : (c : Certificate) (cs : List Certificate) → count_not_self_issued (c ∷ cs) ≡ counts (is_self_issued c) + count_not_self_issued cs
-count-cons c cs = sum_by-cons (λ d. cond (not (is_self_issued d)) 1 0) c cs
+    -- alone
+    over_alone : (max_path_length : Option ℕ) → (max_path_length ≡ Some 0) × (own ≡ false) → IsOver Same max_path_length (c ∷ [])
+    over_alone max_path_length (none, isnt) = rw none (inl (other isnt, tt))
 
--- what is over the max_path_length in front of a certificate is over the max_path_length behind it, or over its own limit
-further : (max_path_length : Option ℕ) (own : Bool) (limit : Option ℕ) (n : ℕ) → (Over max_path_length (counts own + 0) → ⊥) → Over max_path_length (counts own + n) ⊎ Over limit n → Over (narrowed max_path_length own limit) n
-further None own limit n free (inl h) = absurd h
-further None own limit n free (inr h) = h
-further (Some max_path_length) true None n free (inl h) = omega (arith, h)
-further (Some max_path_length) true None n free (inr h) = absurd h
-further (Some max_path_length) false None n free (inl h) = elim (cases_lt max_path_length 1) [ inl none ↦ absurd (free (omega (arith, none))) | inr some ↦ omega (arith, h, some) ]
-further (Some max_path_length) false None n free (inr h) = absurd h
-further (Some max_path_length) true (Some limit) n free (inl h) = omega (arith, h)
-further (Some max_path_length) true (Some limit) n free (inr h) = omega (arith, h)
-further (Some max_path_length) false (Some limit) n free (inl h) = elim (cases_lt max_path_length 1) [ inl none ↦ absurd (free (omega (arith, none))) | inr some ↦ omega (arith, h, some) ]
-further (Some max_path_length) false (Some limit) n free (inr h) = omega (arith, h)
+    alone_over : (max_path_length : Option ℕ) → IsOver Same max_path_length (c ∷ []) → (max_path_length ≡ Some 0) × (own ≡ false)
+    alone_over None over = absurd over
+    alone_over (Some zero) (inl (not_own, rest)) = (refl, not_true own (λ so. not_own (is.0 so)))
+      where
+        not_true : (b : Bool) → (IsTrue b → ⊥) → b ≡ false
+        not_true true never = absurd (never refl)
+        not_true false never = refl
+    alone_over (Some zero) (inr over) = absurd over
+    alone_over (Some (suc n)) (inl (not_own, rest)) = absurd rest
+    alone_over (Some (suc n)) (inr over) = absurd over
 
-least : (a b n : ℕ) → min a b < n → (a < n) ⊎ (b < n)
-least a b n h = elim (cases_lt a n) [ inl less ↦ inl less | inr more ↦ inr (omega (arith, h, more)) ]
+    -- with it there are too many exactly where none may follow, and it isn't self-issued
+    pub too_deep : (b : Bool) (limit : Option ℕ) (before : List Certificate) (max_path_length : Option ℕ) → Leaves Same limit before max_path_length
+        → IsTrue b ↔ ((max_path_length ≡ Some 0) × (own ≡ false)) → IsTrue b ↔ AreTooMany Same limit (before ++ c ∷ [])
+    too_deep b limit before max_path_length leaves said =
+        let many = too_many limit before max_path_length c leaves in
+        ((λ so. many.1 (over_alone max_path_length (said.0 so))), (λ h. said.1 (alone_over max_path_length (many.0 h))))
 
-back : (max_path_length : Option ℕ) (own : Bool) (limit : Option ℕ) (n : ℕ) → Over (narrowed max_path_length own limit) n → Over max_path_length (counts own + n) ⊎ Over limit n
-back None own limit n h = inr h
-back (Some max_path_length) true None n h = inl (omega (arith, h))
-back (Some max_path_length) false None n h = inl (omega (arith, h))
-back (Some max_path_length) true (Some limit) n h = elim (least limit max_path_length n h) [ inl less ↦ inr less | inr less ↦ inl (omega (arith, less)) ]
-back (Some max_path_length) false (Some limit) n h = elim (least limit (max_path_length - 1) n h) [ inl less ↦ inr less | inr less ↦ inl (omega (arith, less)) ]
+    -- what is left behind it, whatever its own path length
+    abbrev left : Option ℕ → Option ℕ
+    left max_path_length = narrowed max_path_length own None
 
-module _ (extensions : List Extension) (limit : Option ℕ) (is : (k : ℕ) → HasPathLen extensions k ↔ (limit ≡ Some k)) (n : ℕ) where
-  limited : (k : ℕ) × HasPathLen extensions k × (k < n) → Over limit n
-  limited (k, has, less) = rw ((is k).0 has) less
+    left_is : (max_path_length : Option ℕ) (b : Bool) → own ≡ b → (IsOver Same max_path_length (c ∷ []) → ⊥) → (behind : List Certificate)
+        → IsOver Same max_path_length (c ∷ behind) ↔ IsOver Same (narrowed max_path_length b None) behind
+    left_is None b so free behind = ((λ h. h), (λ h. h))
+    left_is (Some n) true so free behind = (elim [ inl h ↦ absurd (h.0 (is.0 so)) | inr more ↦ more ], (λ more. inr more))
+    left_is (Some zero) false so free behind = absurd (free (inl (other so, tt)))
+    left_is (Some (suc n)) false so free behind =
+        let e : suc n - 1 ≡ n = omega arith in
+        rw e (elim [ inl h ↦ h.1 | inr more ↦ fewer (suc n) behind more ], (λ more. inl (other so, more)))
 
-  unlimited : (o : Option ℕ) → limit ≡ o → Over o n → (k : ℕ) × HasPathLen extensions k × (k < n)
-  unlimited None none h = absurd h
-  unlimited (Some k) some h = (k, (is k).1 some, h)
+    lower_is : (max_path_length own_length : Option ℕ) (behind : List Certificate) → (IsOver Same own_length behind ⊎ IsOver Same (left max_path_length) behind) ↔ IsOver Same (narrowed max_path_length own own_length) behind
+    lower_is None own_length behind = (elim [ inl h ↦ h | inr h ↦ absurd h ], (λ h. inl h))
+    lower_is (Some n) None behind = (elim [ inl h ↦ absurd h | inr h ↦ h ], (λ h. inr h))
+    lower_is (Some n) (Some own_length) behind = lowest own_length _ behind
 
-module _ (before : List Certificate) (max_path_length : Option ℕ) (c : Certificate) (limit : Option ℕ) (leaves : Leaves before max_path_length) (free : IsOver max_path_length (c ∷ []) → ⊥) (is : (k : ℕ) → HasPathLen (extensions_of c) k ↔ (limit ≡ Some k)) where
-  own_length : Over max_path_length (counts (is_self_issued c) + 0) → ⊥
-  own_length h = free ((over_is max_path_length (c ∷ [])).1 (rw (count-cons c []) h))
+    module _ (own_length : Option ℕ) (has : (k : ℕ) → HasPathLen (extensions_of c) k ↔ (own_length ≡ Some k)) where
+      limited : (behind : List Certificate) → (k : ℕ) × HasPathLen (extensions_of c) k × IsOver Same (Some k) behind → IsOver Same own_length behind
+      limited behind (k, has_it, over) = rw ((has k).0 has_it) over
 
-  -- a certificate and those behind it
-  abbrev Behind : List Certificate → Type 0
-  Behind more = IsOver max_path_length (c ∷ more) ⊎ IsTooLong (c ∷ more)
+      unlimited : (behind : List Certificate) (o : Option ℕ) → own_length ≡ o → IsOver Same o behind → (k : ℕ) × HasPathLen (extensions_of c) k × IsOver Same (Some k) behind
+      unlimited behind None none over = absurd over
+      unlimited behind (Some k) some over = (k, (has k).1 some, over)
 
-  there : (more : List Certificate) → Behind more → IsOver (narrowed max_path_length (is_self_issued c) limit) more ⊎ IsTooLong more
-  there more (inl over) = inl ((over_is _ more).1 (further max_path_length (is_self_issued c) limit (count_not_self_issued more) own_length (inl (rw (count-cons c more) at ((over_is max_path_length (c ∷ more)).0 over)))))
-  there more (inr (inl has)) = inl ((over_is _ more).1 (further max_path_length (is_self_issued c) limit (count_not_self_issued more) own_length (inr (limited (extensions_of c) limit is (count_not_self_issued more) has))))
-  there more (inr (inr deep)) = inr deep
+      module _ (limit : Option ℕ) (before : List Certificate) (max_path_length : Option ℕ) (leaves : Leaves Same limit before max_path_length) (free : IsOver Same max_path_length (c ∷ []) → ⊥) where
+        abbrev next : Option ℕ
+        next = narrowed max_path_length own own_length
 
-  from_over : (more : List Certificate) → Over max_path_length (counts (is_self_issued c) + count_not_self_issued more) ⊎ Over limit (count_not_self_issued more) → Behind more
-  from_over more (inl over) = inl ((over_is max_path_length (c ∷ more)).1 (rw (count-cons c more) over))
-  from_over more (inr over) = inr (inl (unlimited (extensions_of c) limit is (count_not_self_issued more) limit refl over))
+        there : (behind : List Certificate) → AreTooMany Same max_path_length (c ∷ behind) → AreTooMany Same next behind
+        there behind (inl over) = inl ((lower_is max_path_length own_length behind).0 (inr ((left_is max_path_length own refl free behind).0 over)))
+        there behind (inr (inl limits)) = inl ((lower_is max_path_length own_length behind).0 (inl (limited behind limits)))
+        there behind (inr (inr deep)) = inr deep
 
-  here : (more : List Certificate) → IsOver (narrowed max_path_length (is_self_issued c) limit) more ⊎ IsTooLong more → Behind more
-  here more (inl over) = from_over more (back max_path_length (is_self_issued c) limit (count_not_self_issued more) ((over_is _ more).0 over))
-  here more (inr deep) = inr (inr deep)
+        back : (behind : List Certificate) → AreTooMany Same next behind → AreTooMany Same max_path_length (c ∷ behind)
+        back behind (inl over) = elim ((lower_is max_path_length own_length behind).1 over) [
+          | inl own ↦ inr (inl (unlimited behind own_length refl own))
+          | inr above ↦ inl ((left_is max_path_length own refl free behind).1 above)
+        ]
+        back behind (inr deep) = inr (inr deep)
 
-  pub narrows : Leaves (before ++ c ∷ []) (narrowed max_path_length (is_self_issued c) limit)
-  narrows more =
-      let joined : (before ++ c ∷ []) ++ more ≡ before ++ (c ∷ more) = append_assoc before (c ∷ []) more in
-      rw joined ((λ deep. there more ((leaves (c ∷ more)).0 deep)), (λ h. (leaves (c ∷ more)).1 (here more h)))
+        -- how many may follow it, where it may stand there
+        pub narrows : Leaves Same limit (before ++ c ∷ []) next
+        narrows behind =
+            let joined : (before ++ c ∷ []) ++ behind ≡ before ++ (c ∷ behind) = append_assoc before (c ∷ []) behind in
+            rw joined ((λ many. there behind ((leaves (c ∷ behind)).0 many)), (λ many. (leaves (c ∷ behind)).1 (back behind many)))
+
+  -- at the start
+  pub begins : (limit : Option ℕ) → Leaves Same limit [] limit
+  begins limit behind = ((λ h. h), (λ h. h))
+
+  -- without a limit from above
+  pub unlimited_too_long : (cs : List Certificate) → AreTooMany Same None cs ↔ IsTooLong Same cs
+  unlimited_too_long cs = (elim [ inl over ↦ absurd over | inr deep ↦ deep ], (λ deep. inr deep))

@@ -5,9 +5,9 @@ use Rattle.std.proofs.lemmas.List.{length-map, length-drop}
 use Rattle.std.proofs.lemmas.Option.{slice_get_within, slice_get-get_or, slice_get-map}
 use Rattle.std.specs.Option.{option_map}
 use Rattle.x509_base.specs.CivilTime.{CivilTime}
-use Rattle.x509_path.specs.Certificates.{Accepting, Certificate}
+use Rattle.x509_path.specs.Certificates.{Accepting, AreEqual, Certificate, IsOver}
 use Rattle.x509_path.specs.Path.{Answers, Breaks, HasFault, IsFault, IsFirst, IsFirstFault, PathHolds, Standing, faults_at, is_empty, reasons}
-use Rattle.x509_path.specs.PathLength.{IsOver, Judges, Leaves, anchor_behind}
+use Rattle.x509_path.specs.PathLength.{Judges, Leaves, anchor_behind}
 use Rattle.x509_path.specs.declared.anchor.Anchor.{Anchor}
 use Rattle.x509_path.specs.declared.fault.PathFault.{PathFault}
 use Rattle.x509_path.specs.declared.fault.PathFault.TheVariants.{Memory, Empty, At}
@@ -15,7 +15,7 @@ use Rattle.x509_path.specs.declared.fault.PathReason.{PathReason}
 use Rattle.x509_path.specs.declared.fault.PathReason.TheVariants.{Decode, PathLen}
 use Rattle.x509_path.proofs.Along.{Reached, local, no_fault, reached_first, reached_next}
 use Rattle.x509_path.proofs.Firsts.{first_along, wrong}
-use Rattle.x509_path.proofs.PathLengths.{free, too_long}
+use Rattle.x509_path.proofs.PathLengths.{begins, too_many, unlimited_too_long}
 
 -- ---- lists of inputs
 
@@ -44,11 +44,11 @@ module _ (accepts : Accepting) (moment : CivilTime) (anchor : Anchor) (inputs : 
   -- them
   pub record Passed (i : ℕ) (above : Option Certificate) (max_path_length : Option ℕ) : Type 0 where
     pub before : List Certificate
-    pub leaves : i < length inputs → Leaves before max_path_length
+    pub leaves : i < length inputs → Leaves AreEqual None before max_path_length
     pub reached : Reached (faults_at accepts moment) anchor inputs i (anchor_behind anchor above) before
 
   pub start : Passed 0 None None
-  start = record { before = []; leaves = λ some. free; reached = reached_first (faults_at accepts moment) anchor inputs }
+  start = record { before = []; leaves = λ some. begins AreEqual None; reached = reached_first (faults_at accepts moment) anchor inputs }
 
   module _ (i : ℕ) (above : Option Certificate) (max_path_length : Option ℕ) (bytes : List ℕ) (passed : Passed i above max_path_length) (input : slice_get inputs i ≡ Some bytes) where
     within : i < length inputs
@@ -79,14 +79,15 @@ module _ (accepts : Accepting) (moment : CivilTime) (anchor : Anchor) (inputs : 
     refused (At p r) some h = rw h.0 (first_fault r h.1)
 
     pub further : (c : Certificate) (next_length : Option ℕ) → Judges accepts moment here bytes i (Ok c)
-        → ((i + 1 == length inputs) ≡ false → (before : List Certificate) → Leaves before max_path_length → (IsOver max_path_length (c ∷ []) → ⊥) → Leaves (before ++ c ∷ []) next_length)
+        → ((i + 1 == length inputs) ≡ false → (before : List Certificate) → Leaves AreEqual None before max_path_length → (IsOver AreEqual max_path_length (c ∷ []) → ⊥) → Leaves AreEqual None (before ++ c ∷ []) next_length)
         → Passed (i + 1) (Some c) next_length
     further c next_length (spells, right) step = record {
       before = passed.before ++ c ∷ [];
       leaves = λ more.
           let early : (i + 1 == length inputs) ≡ false = grind (arith, more) in
           let leaves = passed.leaves within in
-          step early passed.before leaves (λ over. right PathLen (early, (too_long passed.before max_path_length c leaves).1 over));
+          let deep = too_many AreEqual None passed.before max_path_length c leaves in
+          step early passed.before leaves (λ over. right PathLen (early, (unlimited_too_long AreEqual (passed.before ++ c ∷ [])).0 (deep.1 over)));
       reached = reached_next (faults_at accepts moment) anchor inputs i (anchor_behind anchor above) passed.before bytes passed.reached input c spells
           (λ r fault. right r (wrong Decode (Breaks accepts moment here bytes) bytes c spells r ((there r).0 fault)));
     }

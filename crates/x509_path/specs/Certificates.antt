@@ -1,5 +1,5 @@
 -- What may be said against one certificate of a path (RFC 5280 6.1.3, 6.1.4), and against how many follow another.
-use Rattle.std.specs.Prelude.{◌≡◌, ◌≢◌, ◌<◌, ◌⊎◌, ℕ, Bool, true, false, not, List, [], ◌∷◌, count_by, Some}
+use Rattle.std.specs.Prelude.{◌≡◌, ◌≢◌, ◌<◌, ◌⊎◌, ℕ, zero, suc, Bool, true, false, List, [], ◌∷◌, Option, Some, None}
 use Rattle.std.specs.List.{All}
 use Rattle.x509_base.specs.CivilTime.{CivilTime, unix_seconds}
 use Rattle.x509_base.specs.Time.{date_time_of}
@@ -19,7 +19,7 @@ use Rattle.x509_ext.specs.KeyUsage.{key_usage, has_bit}
 use Rattle.x509_ext.specs.declared.pkix.basic_constraints.BasicConstraints.{BasicConstraints}
 use Rattle.x509_ext.specs.declared.pkix.key_usage.KeyUsage.{KeyUsage}
 use Rattle.x509_ext.specs.LookUp.{members, with_oid}
-use Rattle.x509_name.specs.Names.{rdn_sequence_eq}
+use Rattle.x509_name.specs.declared.attr.type_and_value.AttributeTypeAndValue.{AttributeTypeAndValue}
 use Rattle.x509_prim.specs.BitString.{BitParts}
 
 abbrev pub Certificate : Type 0
@@ -84,14 +84,29 @@ AreHandled extensions = All (λ e. e.critical ≡ true → IsKnown e) extensions
 
 -- ---- how many certificates follow (RFC 5280 6.1.4 (l), (m))
 
--- the subject is the issuer (RFC 5280 6.1)
-abbrev pub is_self_issued : Certificate → Bool
-is_self_issued c = rdn_sequence_eq c.tbs_certificate.subject c.tbs_certificate.issuer
+-- which names are the same
+abbrev pub Sameness : Type 1
+Sameness = List (List AttributeTypeAndValue) → List (List AttributeTypeAndValue) → Type 0
 
-abbrev pub count_not_self_issued : List Certificate → ℕ
-count_not_self_issued certificates = count_by (λ c. not (is_self_issued c)) certificates
+abbrev pub AreEqual : Sameness
+AreEqual x y = x ≡ y
+
+-- the subject is the issuer (RFC 5280 6.1)
+abbrev pub IsSelfIssued : Sameness → Certificate → Type 0
+IsSelfIssued Same c = Same c.tbs_certificate.subject c.tbs_certificate.issuer
+
+-- so many of them, or more, aren't self-issued
+abbrev pub HasOthers : Sameness → ℕ → List Certificate → Type 0
+HasOthers Same zero certificates = Unit {0}
+HasOthers Same (suc count) [] = ⊥
+HasOthers Same (suc count) (c ∷ behind) = ((IsSelfIssued Same c → ⊥) × HasOthers Same count behind) ⊎ HasOthers Same (suc count) behind
+
+-- more of them aren't self-issued than may follow
+abbrev pub IsOver : Sameness → Option ℕ → List Certificate → Type 0
+IsOver Same None certificates = ⊥
+IsOver Same (Some max_path_length) certificates = HasOthers Same (suc max_path_length) certificates
 
 -- of certificates, topmost first, one has a path length, and more of those behind it than that aren't self-issued
-abbrev pub IsTooLong : List Certificate → Type 0
-IsTooLong [] = ⊥
-IsTooLong (c ∷ behind) = ((k : ℕ) × HasPathLen (extensions_of c) k × (k < count_not_self_issued behind)) ⊎ IsTooLong behind
+abbrev pub IsTooLong : Sameness → List Certificate → Type 0
+IsTooLong Same [] = ⊥
+IsTooLong Same (c ∷ behind) = ((k : ℕ) × HasPathLen (extensions_of c) k × IsOver Same (Some k) behind) ⊎ IsTooLong Same behind

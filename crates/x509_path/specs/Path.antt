@@ -7,7 +7,7 @@ use Rattle.x509_cert.specs.Certificate.{rfc5280_certificate}
 use Rattle.x509_der.specs.Form.{Spells}
 use Rattle.x509_ext.specs.LookUp.{IsRepeated}
 use Rattle.x509_path.specs.Certificates as certificates
-use Rattle.x509_path.specs.Certificates.{Accepting, Certificate, extensions_of}
+use Rattle.x509_path.specs.Certificates.{Accepting, AreEqual, Certificate, extensions_of}
 use Rattle.x509_path.specs.declared.anchor.Anchor.{Anchor}
 use Rattle.x509_path.specs.declared.fault.PathFault.{PathFault}
 use Rattle.x509_path.specs.declared.fault.PathFault.TheVariants.{Memory, Empty, At}
@@ -33,7 +33,7 @@ Breaks accepts moment standing bytes c Repeated = IsRepeated (extensions_of c)
 Breaks accepts moment standing bytes c Critical = certificates.AreHandled (extensions_of c) → ⊥
 Breaks accepts moment standing bytes c NotCa = (standing.is_last ≡ false) × (certificates.IsCa (extensions_of c) → ⊥)
 Breaks accepts moment standing bytes c KeyUsage = (standing.is_last ≡ false) × certificates.LacksKeyCertSign (extensions_of c)
-Breaks accepts moment standing bytes c PathLen = (standing.is_last ≡ false) × certificates.IsTooLong (standing.before ++ c ∷ [])
+Breaks accepts moment standing bytes c PathLen = (standing.is_last ≡ false) × certificates.IsTooLong AreEqual (standing.before ++ c ∷ [])
 
 -- the bytes are those of no certificate
 abbrev pub IsUnreadable : List ℕ → Type 0

@@ -1,6 +1,6 @@
 -- Tools of the proofs: max_path_length, how many certificates that aren't self-issued may still follow (RFC 5280 6.1.2 (k)), and what is said of one
 -- certificate.
-use Rattle.std.specs.Prelude.{◌≡◌, ◌<◌, ◌-◌, ◌⊎◌, ◌↔◌, ℕ, Bool, false, min, List, ◌∷◌, ◌++◌, Option, Some, None, Result, Ok, Err, MatchResult, if◌then◌else◌}
+use Rattle.std.specs.Prelude.{◌≡◌, ◌-◌, ◌⊎◌, ◌↔◌, ℕ, Bool, false, min, List, ◌∷◌, ◌++◌, Option, Some, None, Result, Ok, Err, MatchResult, if◌then◌else◌}
 use Rattle.x509_base.specs.CivilTime.{CivilTime}
 use Rattle.x509_base.specs.declared.subject_public_key_info.SubjectPublicKeyInfo.{SubjectPublicKeyInfo}
 use Rattle.x509_cert.specs.Certificate.{rfc5280_certificate}
@@ -10,7 +10,7 @@ use Rattle.x509_ext.specs.Identifiers.{id_ce}
 use Rattle.x509_ext.specs.declared.extension.Extension.{Extension}
 use Rattle.x509_ext.specs.declared.pkix.basic_constraints.BasicConstraints.{BasicConstraints}
 use Rattle.x509_name.specs.declared.attr.type_and_value.AttributeTypeAndValue.{AttributeTypeAndValue}
-use Rattle.x509_path.specs.Certificates.{Accepting, Certificate, HasPayload, count_not_self_issued, extensions_of, IsTooLong}
+use Rattle.x509_path.specs.Certificates.{Accepting, Certificate, HasPayload, IsOver, IsTooLong, Sameness, extensions_of}
 use Rattle.x509_path.specs.Path.{Standing, Breaks, IsFault, IsFirst, reasons, subject_of}
 use Rattle.x509_path.specs.declared.anchor.Anchor.{Anchor}
 use Rattle.x509_path.specs.declared.fault.PathFault.{PathFault}
@@ -22,14 +22,14 @@ use Rattle.x509_path.specs.declared.fault.PathReason.TheVariants.{Decode}
 abbrev pub HasConstraints : List Extension → Option BasicConstraints → Type 0
 HasConstraints extensions found = (value : BasicConstraints) → HasPayload basic_constraints (id_ce 19) extensions value ↔ (found ≡ Some value)
 
--- more of them aren't self-issued than may follow
-abbrev pub IsOver : Option ℕ → List Certificate → Type 0
-IsOver None behind = ⊥
-IsOver (Some max_path_length) behind = max_path_length < count_not_self_issued behind
+-- more of them aren't self-issued than the limit, or one of them, lets follow
+abbrev pub AreTooMany : Sameness → Option ℕ → List Certificate → Type 0
+AreTooMany Same limit certificates = IsOver Same limit certificates ⊎ IsTooLong Same certificates
 
--- behind these certificates the max_path_length is this one
-abbrev pub Leaves : List Certificate → Option ℕ → Type 0
-Leaves before max_path_length = (behind : List Certificate) → IsTooLong (before ++ behind) ↔ (IsOver max_path_length behind ⊎ IsTooLong behind)
+-- under that limit, behind these certificates, the max_path_length is this one
+abbrev pub Leaves : Sameness → Option ℕ → List Certificate → Option ℕ → Type 0
+Leaves Same limit before max_path_length =
+    (behind : List Certificate) → AreTooMany Same limit (before ++ behind) ↔ AreTooMany Same max_path_length behind
 
 -- the max_path_length behind a certificate with that path length, or with none (RFC 5280 6.1.4 (l), (m))
 abbrev pub narrowed : Option ℕ → Bool → Option ℕ → Option ℕ

@@ -26,7 +26,9 @@ fn no_extension<'a>() -> ExtensionRef<'a> {
 }
 
 /// Places for few extensions.
-pub fn places<'a>() -> [ExtensionRef<'a>; FEW_EXTENSIONS] {
+pub fn places<'a>() -> [ExtensionRef<'a>; FEW_EXTENSIONS]
+    ensures { length result ≡ 16 }
+{
     [
         no_extension(),
         no_extension(),
@@ -48,7 +50,7 @@ pub fn places<'a>() -> [ExtensionRef<'a>; FEW_EXTENSIONS] {
 }
 
 /// How many extensions there are, each lent to a place, from the first on; `None` where the places are too few.
-pub fn gather<'a>(extensions: ExtensionRefs<'a>, few: &mut [ExtensionRef<'a>]) -> Option<usize>
+fn gather<'a>(extensions: ExtensionRefs<'a>, few: &mut [ExtensionRef<'a>]) -> Option<usize>
     ensures few { IfSome result (λ count. (count ≤ length few.new) × (lent_extensions (take count few.new) ≡ extensions_left extensions.entry)) }
     ensures many { result ≡ None → length few.old < length (extensions_left extensions.entry) }
     ensures places { length few.new ≡ length few.old }
@@ -89,11 +91,34 @@ pub fn collect<'a>(
 
 /// The first extensions.
 #[inline(always)]
-pub fn front<'s, 'a>(extensions: &'s [ExtensionRef<'a>], count: usize) -> &'s [ExtensionRef<'a>]
+fn front<'s, 'a>(extensions: &'s [ExtensionRef<'a>], count: usize) -> &'s [ExtensionRef<'a>]
     requires { count ≤ length extensions.now }
     ensures { result.now ≡ take count extensions.now }
 {
     &extensions[..count]
+}
+
+/// The extensions, each lent: in the places where these are enough, else in the list.
+///
+/// # Errors
+///
+/// Out of memory, only of more extensions than places.
+pub fn lend_all<'s, 'a>(
+    alloc: Global,
+    extensions: ExtensionRefs<'a>,
+    few: &'s mut [ExtensionRef<'a>],
+    many: &'s mut Vec<ExtensionRef<'a>>,
+) -> Result<&'s [ExtensionRef<'a>], AllocError>
+    ensures ok { IfOk result (λ list. lent_extensions list.now ≡ extensions_left extensions.entry) }
+    ensures err { IfErr result (λ e. length few.old < length (extensions_left extensions.entry)) }
+{
+    match gather(extensions, few) {
+        Some(count) => Ok(front(few, count)),
+        None => {
+            *many = collect(alloc, extensions)?;
+            Ok(many.as_slice())
+        }
+    }
 }
 
 /// The extensions that follow the one at that index.

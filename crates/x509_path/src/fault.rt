@@ -3,6 +3,7 @@
 ghost use Rattle.std.specs.Prelude.{Some};
 ghost use Rattle.x509_path.specs.Fault.{fault_text, reason_text};
 
+use std::alloc::AllocError;
 use std::error::Error;
 use std::fmt;
 
@@ -92,6 +93,17 @@ impl fmt::Display for PathFault {
             PathFault::Empty => f.write_str("Empty"),
             PathFault::At { place, reason } => write!(f, "{place} {reason}"),
         }
+    }
+}
+
+impl From<AllocError> for PathFault {
+    ghost use Rattle.std.specs.Prelude.{◌≡◌};
+    ghost use Rattle.x509_path.specs.declared.fault.PathFault.TheVariants.{Memory};
+
+    ghost from_gives = { λ _ fault. fault ≡ Memory };
+
+    fn from(_e: AllocError) -> PathFault {
+        PathFault::Memory
     }
 }
 

@@ -1,26 +1,21 @@
 //! The checks of one certificate of a path.
 
-ghost use Rattle.std.specs.Prelude.{◌≡◌, ◌≢◌, ◌↔◌, ◌<◌, ◌∷◌, ◌++◌, [], length, List, Ok, Err, IfOk, IfErr, IsTrue, MatchResult, false};
-ghost use Rattle.x509_ext.specs.LookUp.{IsRepeated};
+ghost use Rattle.std.specs.Prelude.{◌≡◌, ◌↔◌, IsTrue};
 ghost use Rattle.x509_path.specs.Certificates as certificates;
-ghost use Rattle.x509_path.specs.Lent.{Lends, lent_extensions};
-ghost use Rattle.x509_path.specs.Path.{Breaks};
-ghost use Rattle.x509_path.specs.PathLength.{HasConstraints, IsOver, Judges, Leaves, narrowed, standing};
-ghost use Rattle.x509_path.specs.declared.anchor.Anchor.{Anchor};
-ghost use Rattle.x509_path.specs.declared.fault.PathFault.TheVariants.{Memory, At};
+ghost use Rattle.x509_path.specs.Lent.{Lends};
+ghost use Rattle.x509_path.specs.declared.fault.PathFault.TheVariants.{At};
 ghost use Rattle.x509_path.specs.declared.fault.PathReason.TheVariants as reasons;
 
 use crate::anchor_ref::AnchorRef;
-use crate::certificate::{has_two_algorithms, is_outside, signed_of};
+use crate::certificate::{has_two_algorithms, is_outside};
 use crate::extensions::{
-    are_handled, basic_constraints, collect, front, gather, is_ca, is_repeated,
-    lacks_key_cert_sign, path_len, places,
+    are_handled, basic_constraints, is_ca, is_repeated, lacks_key_cert_sign, lend_all, places,
 };
 use crate::fault::{PathFault, PathReason};
-use crate::trust::Trust;
-use std::alloc::Global;
+use crate::lengths::is_over;
+use crate::trust::{Trust, is_signed};
+use std::alloc::{AllocError, Global};
 use x509_base::DateTime;
-use x509_cert::laws::one_signed_part;
 use x509_check::{CertificateRef, ExtensionRef};
 use x509_ext::pkix::BasicConstraints;
 
@@ -44,7 +39,7 @@ pub(crate) struct Place<'a> {
     pub(crate) above: Option<AnchorRef<'a>>,
 
     /// How many certificates that aren't self-issued may follow, where that is limited.
-    pub(crate) max_path_length: Option<u8>,
+    pub(crate) max_path_length: Option<u32>,
 
     /// Whether it is the last.
     pub(crate) is_last: bool,
@@ -52,67 +47,11 @@ pub(crate) struct Place<'a> {
 
 /// Whether the subject is the issuer.
 #[tactic(auto, using(crate::proofs::Lent::self_issued))]
-fn is_self_issued(certificate: &CertificateRef<'_>) -> bool
-    ensures { (c : certificates.Certificate) → Lends certificate.now.bytes.now c → result ≡ certificates.is_self_issued c }
+pub(crate) fn is_self_issued(certificate: &CertificateRef<'_>) -> bool
+    ensures { (c : certificates.Certificate) → Lends certificate.now.bytes.now c
+        → IsTrue result ↔ certificates.IsSelfIssued certificates.AreEqual c }
 {
     certificate.subject() == certificate.issuer()
-}
-
-/// Whether a path length constraint above allows no such certificate here.
-fn is_over(max_path_length: Option<u8>, certificate: &CertificateRef<'_>) -> bool
-    ensures { (c : certificates.Certificate) → Lends certificate.now.bytes.now c → IsTrue result ↔ IsOver max_path_length (c ∷ []) }
-{
-    match max_path_length {
-        Some(max_path_length) => max_path_length == 0 && !is_self_issued(certificate),
-        None => false,
-    }
-}
-
-/// Whether two of the extensions have one OID.
-fn has_repeated(alloc: Global, extensions: &[ExtensionRef<'_>]) -> Result<bool, PathFault>
-    ensures ok { IfOk result (λ b. IsTrue b ↔ IsRepeated (lent_extensions extensions.now)) }
-    ensures err { IfErr result (λ e. (e ≡ Memory) × (16 < length extensions.now)) }
-{
-    match is_repeated(alloc, extensions) {
-        Ok(repeated) => Ok(repeated),
-        Err(_) => Err(PathFault::Memory),
-    }
-}
-
-/// How many certificates may follow one that is allowed itself.
-fn narrow(
-    max_path_length: Option<u8>,
-    certificate: &CertificateRef<'_>,
-    path_len: Option<u8>,
-) -> Option<u8>
-    ensures { (c : certificates.Certificate) → Lends certificate.now.bytes.now c → result ≡ narrowed max_path_length (certificates.is_self_issued c) path_len }
-{
-    let Some(max_path_length) = max_path_length else {
-        return path_len;
-    };
-    let left = if is_self_issued(certificate) {
-        max_path_length
-    } else {
-        max_path_length.saturating_sub(1)
-    };
-    match path_len {
-        Some(path_len) => Some(path_len.min(left)),
-        None => Some(left),
-    }
-}
-
-/// How many certificates may follow the certificate, where it is allowed itself.
-pub(crate) fn max_path_length_behind(
-    max_path_length: Option<u8>,
-    certificate: &CertificateRef<'_>,
-    constraints: Option<BasicConstraints>,
-) -> Option<u8>
-    ensures { (c : certificates.Certificate) → Lends certificate.now.bytes.now c → HasConstraints (certificates.extensions_of c) constraints
-        → (before : List certificates.Certificate) → Leaves before max_path_length → (IsOver max_path_length (c ∷ []) → ⊥)
-        → Leaves (before ++ c ∷ []) result }
-{
-    let path_len = path_len(constraints);
-    narrow(max_path_length, certificate, path_len)
 }
 
 /// What a certificate lends to the checks.
@@ -152,7 +91,7 @@ pub(crate) struct Judge<'t, T> {
 }
 
 impl<T: Trust> Judge<'_, T> {
-    ghost use Rattle.std.specs.Prelude.{◌≡◌, ◌≢◌, ◌↔◌, ◌<◌, ◌⊎◌, length, min, List, Ok, Err, IfOk, IfErr, IsTrue, MatchResult, false};
+    ghost use Rattle.std.specs.Prelude.{◌≡◌, ◌≢◌, ◌↔◌, ◌<◌, ◌⊎◌, length, List, None, Ok, Err, IfOk, IfErr, IsTrue, MatchResult, false};
     ghost use Rattle.x509_path.specs.Certificates as certificates;
     ghost use Rattle.x509_path.specs.Lent.{HasMany, Lends, StandsAbove, lent_extensions};
     ghost use Rattle.x509_path.specs.Path.{Breaks};
@@ -165,10 +104,10 @@ impl<T: Trust> Judge<'_, T> {
         &self,
         place: &Place<'_>,
         certificate: &CertificateRef<'_>,
-    ) -> Result<bool, PathFault>
+    ) -> Result<bool, AllocError>
         ensures ok { IfOk result (λ b. (c : certificates.Certificate) (above : Anchor) → Lends certificate.now.bytes.now c
             → StandsAbove (T.is_anchor self.now.trust.now) place.now.above above → IsTrue b ↔ (c.tbs_certificate.issuer ≢ above.name)) }
-        ensures err { IfErr result (λ e. (e ≡ Memory) × T.takes_memory) }
+        ensures err { IfErr result (λ e. T.takes_memory) }
     {
         match &place.above {
             Some(above) => Ok(certificate.issuer() != above.name),
@@ -179,39 +118,22 @@ impl<T: Trust> Judge<'_, T> {
         }
     }
 
-    /// Whether the verifier accepts the signature of the signed part, as it stands in the bytes.
-    fn is_signed(
-        &self,
-        place: &Place<'_>,
-        certificate: &CertificateRef<'_>,
-    ) -> Result<bool, PathFault>
-        ensures ok { IfOk result (λ b. (c : certificates.Certificate) (above : Anchor) → Lends certificate.now.bytes.now c
-            → StandsAbove (T.is_anchor self.now.trust.now) place.now.above above
-            → IsTrue b ↔ certificates.IsSigned (T.accepts self.now.trust.now) above.key certificate.now.bytes.now c) }
-        ensures err { IfErr result (λ e. (e ≡ Memory) × T.takes_memory) }
-    {
-        one_signed_part();
-        let signed = signed_of(certificate);
-        let accepted = self.trust.verify(self.alloc, &place.above, &signed)?;
-        Ok(accepted)
-    }
-
     /// Whether the certificate has that fault.
     fn breaks(
         &self,
         place: &Place<'_>,
         lent: &Lent<'_, '_>,
         reason: PathReason,
-    ) -> Result<bool, PathFault>
+    ) -> Result<bool, AllocError>
         ensures ok { IfOk result (λ b. (c : certificates.Certificate) (above : Anchor) → Lends lent.now.certificate.now.bytes.now c
             → lent_extensions lent.now.extensions.now ≡ certificates.extensions_of c
             → (place.now.is_last ≡ false → HasConstraints (certificates.extensions_of c) lent.now.constraints)
             → StandsAbove (T.is_anchor self.now.trust.now) place.now.above above
-            → (before : List certificates.Certificate) → Leaves before place.now.max_path_length → IsTrue b
+            → (before : List certificates.Certificate) → Leaves certificates.AreEqual None before place.now.max_path_length → IsTrue b
             ↔ Breaks (T.accepts self.now.trust.now) self.now.moment
             (standing above.name above.key before place.now.is_last) lent.now.certificate.now.bytes.now c
             reason) }
-        ensures err { IfErr result (λ e. (e ≡ Memory) × (T.takes_memory ⊎ (16 < length lent.now.extensions.now))) }
+        ensures err { IfErr result (λ e. T.takes_memory ⊎ (16 < length lent.now.extensions.now)) }
     {
         let certificate = lent.certificate;
         let extensions = lent.extensions;
@@ -220,15 +142,17 @@ impl<T: Trust> Judge<'_, T> {
             PathReason::Algorithm => Ok(has_two_algorithms(certificate)),
             PathReason::Issuer => self.is_of_another(place, certificate),
             PathReason::Moment => Ok(is_outside(self.moment, certificate)),
-            PathReason::Signature => Ok(!self.is_signed(place, certificate)?),
-            PathReason::Repeated => has_repeated(self.alloc, extensions),
+            PathReason::Signature => {
+                Ok(!is_signed(self.alloc, self.trust, &place.above, certificate)?)
+            }
+            PathReason::Repeated => is_repeated(self.alloc, extensions),
             PathReason::Critical => Ok(!are_handled(extensions)),
             PathReason::NotCa => Ok(!place.is_last && !is_ca(lent.constraints)),
             PathReason::KeyUsage => {
                 Ok(!place.is_last && lacks_key_cert_sign(self.alloc, extensions))
             }
             PathReason::PathLen => {
-                Ok(!place.is_last && is_over(place.max_path_length, certificate))
+                Ok(!place.is_last && is_over(place.max_path_length, is_self_issued(certificate)))
             }
         }
     }
@@ -245,7 +169,7 @@ impl<T: Trust> Judge<'_, T> {
         ensures judged { (c : certificates.Certificate) (above : Anchor)
             → Lends certificate.now.bytes.now c → lent_extensions extensions.now ≡ certificates.extensions_of c
             → StandsAbove (T.is_anchor self.now.trust.now) place.now.above above → (before : List certificates.Certificate)
-            → Leaves before place.now.max_path_length → JudgesLent (T.accepts self.now.trust.now) self.now.moment
+            → Leaves certificates.AreEqual None before place.now.max_path_length → JudgesLent (T.accepts self.now.trust.now) self.now.moment
             (standing above.name above.key before place.now.is_last) certificate.now.bytes.now index c result }
         ensures memory { result ≡ Err Memory → T.takes_memory ⊎ (16 < length extensions.now) }
     {
@@ -266,66 +190,6 @@ impl<T: Trust> Judge<'_, T> {
         Ok(constraints)
     }
 
-    /// The same of a certificate with any number of extensions.
-    fn judge_many(
-        &self,
-        place: &Place<'_>,
-        certificate: &CertificateRef<'_>,
-        index: usize,
-    ) -> Result<Option<BasicConstraints>, PathFault>
-        ensures { (c : certificates.Certificate) (above : Anchor) → Lends certificate.now.bytes.now c
-            → StandsAbove (T.is_anchor self.now.trust.now) place.now.above above → (before : List certificates.Certificate)
-            → Leaves before place.now.max_path_length → JudgesLent (T.accepts self.now.trust.now) self.now.moment
-            (standing above.name above.key before place.now.is_last) certificate.now.bytes.now index c result }
-    {
-        match collect(self.alloc, certificate.extensions()) {
-            Ok(many) => self.judge_lent(place, certificate, many.as_slice(), index),
-            Err(_) => Err(PathFault::Memory),
-        }
-    }
-
-    /// The same, without memory where the places are enough for its extensions.
-    fn judge_within<'a>(
-        &self,
-        place: &Place<'_>,
-        certificate: &CertificateRef<'a>,
-        few: &mut [ExtensionRef<'a>],
-        index: usize,
-    ) -> Result<Option<BasicConstraints>, PathFault>
-        ensures judged { (c : certificates.Certificate) (above : Anchor) → Lends certificate.now.bytes.now c
-            → StandsAbove (T.is_anchor self.now.trust.now) place.now.above above → (before : List certificates.Certificate)
-            → Leaves before place.now.max_path_length → JudgesLent (T.accepts self.now.trust.now) self.now.moment
-            (standing above.name above.key before place.now.is_last) certificate.now.bytes.now index c result }
-        ensures memory { (c : certificates.Certificate) → Lends certificate.now.bytes.now c → result ≡ Err Memory
-            → T.takes_memory ⊎ (min (length few.old) 16 < length (certificates.extensions_of c)) }
-    {
-        match gather(certificate.extensions(), few) {
-            Some(count) => {
-                let extensions = front(few, count);
-                self.judge_lent(place, certificate, extensions, index)
-            }
-            None => self.judge_many(place, certificate, index),
-        }
-    }
-
-    /// The same, without memory for up to 16 extensions.
-    fn judge_read(
-        &self,
-        place: &Place<'_>,
-        certificate: &CertificateRef<'_>,
-        index: usize,
-    ) -> Result<Option<BasicConstraints>, PathFault>
-        ensures judged { (c : certificates.Certificate) (above : Anchor) → Lends certificate.now.bytes.now c
-            → StandsAbove (T.is_anchor self.now.trust.now) place.now.above above → (before : List certificates.Certificate)
-            → Leaves before place.now.max_path_length → JudgesLent (T.accepts self.now.trust.now) self.now.moment
-            (standing above.name above.key before place.now.is_last) certificate.now.bytes.now index c result }
-        ensures memory { (c : certificates.Certificate) → Lends certificate.now.bytes.now c → result ≡ Err Memory
-            → T.takes_memory ⊎ (16 < length (certificates.extensions_of c)) }
-    {
-        let mut few = places();
-        self.judge_within(place, certificate, &mut few, index)
-    }
-
     /// The certificate of these bytes, where nothing is wrong with it; `index` is its place.
     pub(crate) fn judge<'a>(
         &self,
@@ -334,7 +198,7 @@ impl<T: Trust> Judge<'_, T> {
         index: usize,
     ) -> Result<Judged<'a>, PathFault>
         ensures judged { (above : Anchor) → StandsAbove (T.is_anchor self.now.trust.now) place.now.above above → (before : List certificates.Certificate)
-            → Leaves before place.now.max_path_length → MatchResult result
+            → Leaves certificates.AreEqual None before place.now.max_path_length → MatchResult result
             (λ judged. (c : certificates.Certificate) × Lends judged.certificate.bytes.now c × JudgesLent (T.accepts self.now.trust.now) self.now.moment
             (standing above.name above.key before place.now.is_last) bytes.now index c (Ok judged.constraints))
             (λ e. Judges (T.accepts self.now.trust.now) self.now.moment (standing above.name above.key before place.now.is_last) bytes.now index (Err e)) }
@@ -344,7 +208,10 @@ impl<T: Trust> Judge<'_, T> {
             Ok(certificate) => certificate,
             Err(_) => return Err(unreadable(index)),
         };
-        match self.judge_read(place, &certificate, index) {
+        let mut few = places();
+        let mut many = Vec::new(self.alloc);
+        let extensions = lend_all(self.alloc, certificate.extensions(), &mut few, &mut many)?;
+        match self.judge_lent(place, &certificate, extensions, index) {
             Ok(constraints) => Ok(Judged {
                 certificate,
                 constraints,

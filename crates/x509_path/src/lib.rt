@@ -14,8 +14,9 @@ pub mod extensions;
 mod fault;
 mod judge;
 pub mod laws;
+pub mod lengths;
 mod path;
-mod trust;
+pub mod trust;
 mod verifier;
 
 pub use anchor::Anchor;

@@ -8,8 +8,10 @@ ghost use Rattle.x509_path.specs.declared.fault.PathFault.TheVariants.{Memory};
 
 use crate::anchor::Anchor;
 use crate::anchor_ref::AnchorRef;
+use crate::extensions::path_len;
 use crate::fault::PathFault;
-use crate::judge::{Judge, Place, max_path_length_behind};
+use crate::judge::{Judge, Place, is_self_issued};
+use crate::lengths::narrow;
 use crate::trust::{Slices, Trust, Values};
 use crate::verifier::{SliceVerifier, Verifier};
 use std::alloc::{AllocError, Global};
@@ -46,7 +48,7 @@ fn walk<T: Trust>(
         moment,
     };
     let mut above: Option<AnchorRef<'_>> = None;
-    let mut max_path_length: Option<u8> = None;
+    let mut max_path_length: Option<u32> = None;
     for (index, bytes) in path.iter().enumerate() {
         let is_last = index + 1 == path.len();
         let place = Place {
@@ -56,11 +58,8 @@ fn walk<T: Trust>(
         };
         match judge.judge(&place, bytes, index) {
             Ok(judged) => {
-                max_path_length = max_path_length_behind(
-                    max_path_length,
-                    &judged.certificate,
-                    judged.constraints,
-                );
+                let is_own = is_self_issued(&judged.certificate);
+                max_path_length = narrow(max_path_length, is_own, path_len(judged.constraints));
                 above = Some(AnchorRef::from_certificate(&judged.certificate));
             }
             Err(e) => return Err(e),
@@ -112,7 +111,10 @@ pub fn check_path_slices<V: Verifier>(
 ) -> Result<(), PathFault>
     ensures { Answers (V.accepts verifier.now) moment anchor.now (map (λ input. input.now) path.now) result }
 {
-    let trust = Values { anchor, verifier };
+    let trust = Values {
+        anchor: Some(anchor),
+        verifier,
+    };
     walk(alloc, &trust, path, moment)
 }
 

@@ -1,7 +1,9 @@
-use Rattle.std.proofs.Common.{◌∙◌, ◌<◌, Bool, List, [], ℕ, Bor, Ok, Err, Some, length, map, get_or, subst, arith}
+use Rattle.std.proofs.Common.{◌∙◌, ◌<◌, Bool, List, [], ℕ, Bor, Ok, Err, None, Some, length, map, get_or, subst, arith}
 use Rattle.std.proofs.lemmas.List.{length-map}
+use Rattle.x509_path.specs.Certificates.{AreEqual, extensions_of}
 use Rattle.x509_path.specs.PathLength.{Judges, anchor_behind, standing}
 use Rattle.x509_path.proofs.Many.{one_of, refused_too}
+use Rattle.x509_path.proofs.PathLengths.{narrows}
 use Rattle.x509_path.proofs.Places.{counted, done, further, given_at, refused, some_left}
 use Rattle.x509_path.proofs.path.walk.Goals as goal
 
@@ -40,8 +42,10 @@ loop-index-preserved g c = λ anchor is.
     let said = subst (λ (l : Bool). Judges accepts c.args.moment (standing above.name above.key passed.before l) bytes c.loop-index.index (Ok certificate)) counts judged.2.1 in (
       Some certificate,
       c.from_certificate.ensures certificate lends,
-      further accepts c.args.moment anchor inputs c.loop-index.index over c.loop-index.max_path_length bytes passed input certificate c.max_path_length_behind-max_path_length.result said
-          (λ early. c.max_path_length_behind-max_path_length.ensures certificate lends (judged.2.0 (counts ∙ early))),
+      further accepts c.args.moment anchor inputs c.loop-index.index over c.loop-index.max_path_length bytes passed input certificate c.narrow-max_path_length.result said
+          (λ early before leaves free.
+          let limits = c.path_len.ensures (extensions_of certificate) (judged.2.0 (counts ∙ early)) in
+          rw c.narrow-max_path_length.ensures (narrows AreEqual certificate c.is_self_issued-is_own.result (c.is_self_issued-is_own.ensures certificate lends) c.path_len.result limits None before c.loop-index.max_path_length leaves free)),
     )
 
 pub returns-clause-answers : goal.returns-clause-answers

@@ -1,5 +1,5 @@
 use Rattle.std.proofs.Common.{sym, ◌∙◌}
-use Rattle.x509_path.proofs.judge.Judge.is_signed.Goals as goal
+use Rattle.x509_path.proofs.trust.is_signed.Goals as goal
 
 pub returns-clause-ok : goal.returns-clause-ok
 returns-clause-ok g c = λ certificate above lends stands.
