@@ -1,5 +1,5 @@
 -- What an extended key usage allows.
-use Rattle.std.proofs.Common.{◌≡◌, ◌↔◌, ◌⊎◌, ◌∙◌, inl, inr, ℕ, Bool, true, false, List, Option, Some, None, filter, sym, subst}
+use Rattle.std.proofs.Common.{◌≡◌, ◌↔◌, ◌⊎◌, ◌∙◌, inl, inr, ℕ, true, false, List, Option, Some, None, filter, sym, subst}
 use Rattle.x509_ext.specs.ExtendedKeyUsage.{extended_key_usage}
 use Rattle.x509_ext.specs.Identifiers.{id_ce}
 use Rattle.x509_ext.specs.declared.extension.Extension.{Extension}

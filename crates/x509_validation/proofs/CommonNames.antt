@@ -21,7 +21,7 @@ use Rattle.x509_validation.specs.CommonNames.{AreForms, IsAddressText, IsOneAllo
 use Rattle.x509_validation.specs.Inputs.{Inputs}
 use Rattle.x509_validation.specs.Steps.{Collects}
 use Rattle.x509_validation.specs.declared.common_names.Forms.{Forms}
-use Rattle.x509_validation.specs.Validation.{AreCommonNamesAllowed, Apply, HasAlternativeNames}
+use Rattle.x509_validation.specs.Validation.{AreCommonNamesAllowed, HasAlternativeNames}
 
 -- ---- one name at most
 

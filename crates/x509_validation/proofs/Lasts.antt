@@ -1,5 +1,5 @@
 -- What is wrong with the last certificate of a path, whatever stands above it.
-use Rattle.std.proofs.Common.{◌≡◌, ◌∙◌, ◌<◌, inl, inr, ℕ, zero, suc, Bool, true, false, List, [], ◌∷◌, ◌++◌, length, take, drop, get_or, Option, Some, None, refl, sym, ap, subst, arith}
+use Rattle.std.proofs.Common.{◌≡◌, ◌∙◌, ◌<◌, inl, inr, ℕ, suc, Bool, true, false, List, [], ◌∷◌, ◌++◌, length, take, drop, get_or, Option, Some, None, refl, sym, ap, subst, arith}
 use Rattle.std.proofs.Math.Seq.{drop-cons}
 use Rattle.std.proofs.lemmas.List.{take-append-drop}
 use Rattle.std.proofs.lemmas.List.Elements.{All-cons, All-nil}
@@ -9,7 +9,6 @@ use Rattle.x509_der.specs.Form.{Spells}
 use Rattle.x509_path.specs.Certificates.{Accepting, Certificate}
 use Rattle.x509_path.specs.Path.{HasFaultBehind, subject_of}
 use Rattle.x509_path.specs.declared.anchor.Anchor.{Anchor}
-use Rattle.x509_policy.specs.Levels.{In}
 use Rattle.x509_validation.specs.Inputs.{Inputs, LendsInputs}
 use Rattle.x509_validation.specs.Last.{AskedAlone, BreaksAlone, TellsAlone, asked_alone, lone_reasons}
 use Rattle.x509_validation.specs.Steps.{standing}

@@ -1,4 +1,3 @@
-pub mod Others
 pub mod FirstReasons
 pub mod AllowedNames
 pub mod Verdicts
@@ -20,6 +19,7 @@ pub mod VerifiedApart
 pub mod Refusals
 pub mod AnchorLengths
 pub mod LeftPurposes
+pub mod LentPaths
 pub mod Versions
 pub mod Allowed
 pub mod WorkingKeys

@@ -7,14 +7,16 @@ use Rattle.std.proofs.lemmas.Option.{slice_get_within, get_or_from_slice_get}
 use Rattle.std.proofs.lemmas.Slice.Zip.{AllZip-long}
 use Rattle.x509_base.specs.CivilTime.{CivilTime}
 use Rattle.x509_ext.specs.declared.pkix.name_constraints.NameConstraints.{NameConstraints}
-use Rattle.x509_path.specs.Certificates.{Accepting, Certificate}
+use Rattle.x509_match.specs.Matching.{NamesMatch}
+use Rattle.x509_path.specs.Certificates.{Accepting, Certificate, IsOver}
+use Rattle.x509_path.specs.PathLength.{Leaves}
 use Rattle.x509_der.specs.Any.{any}
 use Rattle.x509_validation.specs.Inputs.{Inputs, LendsInputs, SpellsOption, purposes_of, uses_of}
 use Rattle.x509_path.specs.Lent.{LendsAnchor}
 use Rattle.x509_path.specs.Path.{IsFirst, is_empty, subject_of}
 use Rattle.x509_validation.specs.Keys.{key_behind, parameters_of, working_key}
-use Rattle.x509_validation.specs.Steps.{AreConstraintsOf, AreLeft, Carries, EndsUnder, Holds, HoldsKey, Judges, Leaves, Stands, Starts, asked_before, left_at, standing}
-use Rattle.x509_validation.specs.Validation.{Answers, AnswersUnreadable, AreOf, AreParameters, AreUnusable, Breaks, HasFault, IsFault, IsFirstFault, IsOver, IsUnder, Standing, faults_at, reasons}
+use Rattle.x509_validation.specs.Steps.{AreConstraintsOf, AreLeft, Carries, EndsUnder, Holds, HoldsKey, Judges, Stands, Starts, asked_before, left_at, standing}
+use Rattle.x509_validation.specs.Validation.{Answers, AnswersUnreadable, AreOf, AreParameters, AreUnusable, Breaks, HasFault, IsFault, IsFirstFault, IsUnder, Standing, faults_at, reasons}
 use Rattle.x509_path.specs.declared.anchor.Anchor.{Anchor}
 use Rattle.x509_validation.specs.declared.above.Above.{Above}
 use Rattle.x509_validation.specs.declared.asked.Asked.{Asked}
@@ -26,7 +28,7 @@ use Rattle.x509_validation.specs.declared.validation_fault.ValidationReason.{Val
 use Rattle.x509_validation.specs.declared.validation_fault.ValidationReason.TheVariants.{Decode, PathLen}
 use Rattle.x509_validation.proofs.AllowedNames.{collected}
 use Rattle.x509_validation.proofs.WorkingKeys.{one_behind}
-use Rattle.x509_validation.proofs.Others.{too_many}
+use Rattle.x509_path.proofs.PathLengths.{begins, too_many}
 use Rattle.x509_validation.proofs.LeftPurposes.{at_first}
 use Rattle.x509_path.proofs.Along.{Reached, local, no_fault, reached_first, reached_next, zip_push}
 use Rattle.x509_path.proofs.Firsts.{first_along, wrong}
@@ -94,9 +96,6 @@ module _ (accepts : Accepting) (inputs : Inputs) (path : List (List ℕ)) where
     pub stands : Stands inputs above before moment lent max_path_length sets
     pub reached : Reached (faults_at accepts inputs) inputs.trust.anchor path i above before
 
-  begins : (limit : Option ℕ) → Leaves limit [] limit
-  begins limit behind = ((λ h. h), (λ h. h))
-
   pub starting : (trusted : Trusted) (settings : PathSettings) (lent : Above) (sets : Asked) (state : PolicyState) → LendsInputs trusted settings inputs → LendsAnchor lent.anchor inputs.trust.anchor
       → HoldsKey lent inputs.trust.anchor.key → Starts inputs (Ok sets.names) → left_at sets ≡ purposes_of settings → sets.uses ≡ uses_of settings → Carries inputs (length path) [] state → Passed 0 settings.moment lent trusted.max_path_length sets state
   starting trusted settings lent sets state lends anchor key starts left uses carries = record {
@@ -112,7 +111,7 @@ module _ (accepts : Accepting) (inputs : Inputs) (path : List (List ℕ)) where
       at = lends.moment;
       lends = anchor;
       key = key;
-      leaves = subst (λ m. Leaves inputs.trust.max_path_length [] m) lends.trust.max_path_length (begins inputs.trust.max_path_length);
+      leaves = subst (λ m. Leaves NamesMatch inputs.trust.max_path_length [] m) lends.trust.max_path_length (begins NamesMatch inputs.trust.max_path_length);
       applied = starts.0.1;
       collects = starts.0.2;
       uses = lends.uses ∙ sym uses;
@@ -202,7 +201,7 @@ module _ (accepts : Accepting) (inputs : Inputs) (path : List (List ℕ)) where
       module _ (names : Option NameConstraints) (next_lent : Above) (next_length : Option ℕ) (next_sets : Asked) (next_state : PolicyState) where
         next_stands : is_last ≡ false → AreConstraintsOf c names → LendsAnchor next_lent.anchor (subject_of c)
             → HoldsKey next_lent (working_key (key_behind inputs.trust.anchor.key passed.before) c.tbs_certificate.subject_public_key_info)
-            → ((IsOver max_path_length (c ∷ []) → ⊥) → Leaves inputs.trust.max_path_length (passed.before ++ c ∷ []) next_length)
+            → ((IsOver NamesMatch max_path_length (c ∷ []) → ⊥) → Leaves NamesMatch inputs.trust.max_path_length (passed.before ++ c ∷ []) next_length)
             → Holds next_sets.names (passed.stands.constraints ++ option_to_list names) → next_sets.uses ≡ sets.uses
             → AreLeft inputs.purposes (asked_before inputs.uses.is_chained (passed.before ++ c ∷ [])) (left_at next_sets) → Stands inputs (subject_of c) (passed.before ++ c ∷ []) moment next_lent next_length next_sets
         next_stands early of_names lends key leaves applied uses left = record {
@@ -210,7 +209,7 @@ module _ (accepts : Accepting) (inputs : Inputs) (path : List (List ℕ)) where
           at = passed.stands.at;
           lends = lends;
           key = subst (HoldsKey next_lent) (sym (one_behind inputs.trust.anchor.key passed.before c)) key;
-          leaves = leaves (λ over. judged.1 PathLen (early, (too_many inputs.trust.max_path_length passed.before max_path_length c passed.stands.leaves).1 over));
+          leaves = leaves (λ over. judged.1 PathLen (early, (too_many NamesMatch inputs.trust.max_path_length passed.before max_path_length c passed.stands.leaves).1 over));
           applied = applied;
           collects = collected inputs passed.before c passed.stands.constraints names passed.stands.collects of_names;
           uses = passed.stands.uses ∙ sym uses;
@@ -219,7 +218,7 @@ module _ (accepts : Accepting) (inputs : Inputs) (path : List (List ℕ)) where
 
         pub further : is_last ≡ false → AreConstraintsOf c names → LendsAnchor next_lent.anchor (subject_of c)
             → HoldsKey next_lent (working_key (key_behind inputs.trust.anchor.key passed.before) c.tbs_certificate.subject_public_key_info)
-            → ((IsOver max_path_length (c ∷ []) → ⊥) → Leaves inputs.trust.max_path_length (passed.before ++ c ∷ []) next_length)
+            → ((IsOver NamesMatch max_path_length (c ∷ []) → ⊥) → Leaves NamesMatch inputs.trust.max_path_length (passed.before ++ c ∷ []) next_length)
             → Holds next_sets.names (passed.stands.constraints ++ option_to_list names) → next_sets.uses ≡ sets.uses
             → AreLeft inputs.purposes (asked_before inputs.uses.is_chained (passed.before ++ c ∷ [])) (left_at next_sets) → Carries inputs (length path) (passed.before ++ c ∷ []) next_state
             → Passed (i + 1) moment next_lent next_length next_sets next_state

@@ -2,13 +2,13 @@
 use Rattle.std.proofs.Common.{◌≡◌, ◌∙◌, ◌⊎◌, inl, inr, Bor, ◌≤◌, ◌<◌, ℕ, Bool, true, false, List, [], ◌∷◌, ◌++◌, length, Option, Some, None, refl, sym, ap, subst, append-nil, length-append, arith}
 use Rattle.std.proofs.lemmas.Bool.{true≢false}
 use Rattle.std.specs.Prelude.{bytes_eq, if◌then◌else◌, is_some}
-use Rattle.x509_base.specs.AlgorithmIdentifier.{algorithm_identifier, algorithm_identifier_fields}
+use Rattle.x509_base.specs.AlgorithmIdentifier.{algorithm_identifier_fields}
 use Rattle.x509_base.specs.SubjectPublicKeyInfo.{subject_public_key_info, subject_public_key_info_fields}
 use Rattle.x509_base.specs.declared.subject_public_key_info.SubjectPublicKeyInfo.{SubjectPublicKeyInfo}
 use Rattle.x509_der.specs.Any.{any}
 use Rattle.x509_der.specs.Element.{element, length_octets, limit}
 use Rattle.x509_der.specs.Form.{Spells, spelling}
-use Rattle.x509_der.specs.Frames.{fields_good, fields_octets, optional_octets}
+use Rattle.x509_der.specs.Frames.{fields_octets, optional_octets}
 use Rattle.x509_der.specs.declared.any.Any.{Any}
 use Rattle.x509_path.specs.Certificates.{Certificate}
 use Rattle.x509_prim.specs.BitString.{bit_string}

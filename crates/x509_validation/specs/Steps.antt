@@ -1,7 +1,8 @@
 -- Tools of the proofs: what is carried from one certificate to the next while a path is validated, and what is said of one certificate.
+use Rattle.std.specs.Bool.{IsTrue}
 use Rattle.std.specs.List.{All}
 use Rattle.std.specs.Option.{option_map}
-use Rattle.std.specs.Prelude.{◌≡◌, ◌⊎◌, ◌↔◌, ℕ, Bool, true, false, List, [], ◌∷◌, ◌++◌, map, Option, Some, None, Contains, Result, Ok, Err, MatchResult}
+use Rattle.std.specs.Prelude.{◌≡◌, ◌↔◌, ℕ, Bool, true, false, List, [], ◌∷◌, ◌++◌, map, Option, Some, None, Contains, Result, Ok, Err, MatchResult}
 use Rattle.x509_base.specs.CivilTime.{CivilTime}
 use Rattle.x509_base.specs.SubjectPublicKeyInfo.{subject_public_key_info}
 use Rattle.x509_base.specs.declared.subject_public_key_info.SubjectPublicKeyInfo.{SubjectPublicKeyInfo}
@@ -15,7 +16,8 @@ use Rattle.x509_der.specs.declared.any.Any.{Any}
 use Rattle.x509_ext.specs.declared.extension.Extension.{Extension}
 use Rattle.x509_ext.specs.declared.pkix.basic_constraints.BasicConstraints.{BasicConstraints}
 use Rattle.x509_ext.specs.declared.pkix.name_constraints.NameConstraints.{NameConstraints}
-use Rattle.x509_path.specs.Certificates.{Accepting, Certificate, extensions_of}
+use Rattle.x509_match.specs.Matching.{NamesMatch}
+use Rattle.x509_path.specs.Certificates.{Accepting, Certificate, IsSelfIssued, extensions_of}
 use Rattle.x509_validation.specs.Inputs.{Inputs, SpellsOption}
 use Rattle.x509_validation.specs.Keys.{given, key_behind, with_parameters}
 use Rattle.x509_path.specs.Lent.{Lends, LendsAnchor, lent_extensions}
@@ -23,7 +25,7 @@ use Rattle.x509_validation.specs.Policies.{AreSettings, IsRefused}
 use Rattle.x509_validation.specs.Says.{Say, Says, any_policy_inhibit_of, explicit_policy_of, mapping_inhibit_of}
 use Rattle.x509_path.specs.Path.{IsFirst}
 use Rattle.x509_path.specs.PathLength as lengths
-use Rattle.x509_validation.specs.Validation.{AllowsPurpose, Apply, AreSpelled, AreUnusable, Breaks, HasConstraints, IsFault, IsOver, IsTooLong, Standing, own_reasons, reasons}
+use Rattle.x509_validation.specs.Validation.{AllowsPurpose, Apply, AreSpelled, AreUnusable, Breaks, HasConstraints, IsFault, Standing, own_reasons, reasons}
 use Rattle.x509_path.specs.declared.anchor.Anchor.{Anchor}
 use Rattle.x509_validation.specs.declared.above.Above.{Above}
 use Rattle.x509_validation.specs.declared.applied.Applied.{Applied}
@@ -41,14 +43,6 @@ use Rattle.x509_policy.specs.Path.{Reason, Valid}
 use Rattle.x509_policy.specs.Values as policies
 use Rattle.x509_policy.specs.Views.{mapping_of, octets_of}
 use Rattle.x509_policy.specs.declared.state.PolicyState.{PolicyState}
-
--- more of them aren't self-issued than what is trusted, or one of them, lets follow
-abbrev pub AreTooMany : Option ℕ → List Certificate → Type 0
-AreTooMany limit certificates = IsOver limit certificates ⊎ IsTooLong certificates
-
--- behind these certificates the max_path_length is this one (RFC 5280 6.1.2 (k))
-abbrev pub Leaves : Option ℕ → List Certificate → Option ℕ → Type 0
-Leaves limit before max_path_length = (behind : List Certificate) → AreTooMany limit (before ++ behind) ↔ AreTooMany max_path_length behind
 
 -- the sets are those that apply behind these certificates
 abbrev pub Collects : Inputs → List Certificate → List NameConstraints → Type 0
@@ -97,7 +91,7 @@ pub record Stands (inputs : Inputs) (above : Anchor) (before : List Certificate)
   pub at : inputs.moment ≡ moment
   pub lends : LendsAnchor lent.anchor above
   pub key : HoldsKey lent (key_behind inputs.trust.anchor.key before)
-  pub leaves : Leaves inputs.trust.max_path_length before max_path_length
+  pub leaves : lengths.Leaves NamesMatch inputs.trust.max_path_length before max_path_length
   pub applied : Holds sets.names constraints
   pub collects : Collects inputs before constraints
   pub uses : inputs.uses ≡ sets.uses
@@ -113,9 +107,10 @@ pub record IsLimitOf (c : Certificate) (basic : Option BasicConstraints) (names 
   pub of_names : AreConstraintsOf c names
 
 -- what is known of a certificate, of the last one less
-pub record Knows (c : Certificate) (bytes : List ℕ) (lent : List ExtensionRef) (is_last : Bool) (basic : Option BasicConstraints) (names : Option NameConstraints) : Type 0 where
+pub record Knows (c : Certificate) (bytes : List ℕ) (lent : List ExtensionRef) (is_last is_own : Bool) (basic : Option BasicConstraints) (names : Option NameConstraints) : Type 0 where
   pub lends : Lends bytes c
   pub extensions : lent_extensions lent ≡ extensions_of c
+  pub own : IsTrue is_own ↔ IsSelfIssued NamesMatch c
   pub limits : is_last ≡ false → IsLimitOf c basic names
 
 -- what is answered of the certificate that stands there, at that place
@@ -183,6 +178,7 @@ reason_for refusals.MapsAnyPolicy = PolicyMapping
 
 -- they are what is known behind the certificate, behind the others
 pub record IsBehind (inputs : Inputs) (before : List Certificate) (c : Certificate) (limits : Limits) : Type 0 where
+  pub own : IsTrue limits.policies.is_self_issued ↔ IsSelfIssued NamesMatch c
   pub of_limits : IsLimitOf c limits.basic_constraints limits.name_constraints
   pub of_purposes : AreLeft inputs.purposes (asked_before inputs.uses.is_chained (before ++ c ∷ [])) (left_behind limits)
 

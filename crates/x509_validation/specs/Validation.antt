@@ -1,7 +1,7 @@
 -- Validation of paths, topmost certificate first (RFC 5280 6.1): which fault stands at which place, and what is answered. Names are compared
 -- as they match (7.1), name constraints hold, and policies are followed.
 use Rattle.std.specs.Borrow.{Bor}
-use Rattle.std.specs.Prelude.{◌≡◌, ◌≢◌, ◌<◌, ◌==◌, ◌+◌, ◌⊎◌, ◌↔◌, ℕ, zero, suc, length, Bool, true, false, List, [], ◌∷◌, ◌++◌, Option, Some, None, Contains, Result, Ok, Err}
+use Rattle.std.specs.Prelude.{◌≡◌, ◌≢◌, ◌<◌, ◌==◌, ◌+◌, ◌⊎◌, ◌↔◌, ℕ, suc, length, map, Bool, true, false, List, [], ◌∷◌, ◌++◌, Option, Some, None, Contains, Result, Ok, Err}
 use Rattle.std.specs.List.{All, AllZip}
 use Rattle.std.specs.Int.RustNames.{bit_and}
 use Rattle.x509_cert.specs.Certificate.{rfc5280_certificate}
@@ -27,7 +27,7 @@ use Rattle.x509_ext.specs.declared.pkix.key_usage.KeyUsage as usages
 use Rattle.x509_ext.specs.declared.pkix.name_constraints.NameConstraints.{NameConstraints}
 use Rattle.x509_match.specs.Matching.{NamesMatch}
 use Rattle.x509_path.specs.Certificates as certificates
-use Rattle.x509_path.specs.Certificates.{Accepting, Certificate, HasPathLen, HasPayload, extensions_of}
+use Rattle.x509_path.specs.Certificates.{Accepting, Certificate, HasPayload, IsOver, IsSelfIssued, IsTooLong, extensions_of}
 use Rattle.x509_validation.specs.CommonNames.{IsCommonNameAllowed}
 use Rattle.x509_validation.specs.Inputs.{Inputs, SpellsOption}
 use Rattle.x509_validation.specs.Keys.{key_behind, parameters_of}
@@ -90,28 +90,6 @@ IsDecodable e = IsUseSpelled e × IsPolicySpelled e
 abbrev pub AreSpelled : List Extension → Type 0
 AreSpelled extensions = All (λ e. IsDecodable e) extensions
 
--- ---- self-issued certificates
-
--- the subject matches the issuer (6.1)
-abbrev pub IsSelfIssued : Certificate → Type 0
-IsSelfIssued c = NamesMatch c.tbs_certificate.subject c.tbs_certificate.issuer
-
--- so many of them, or more, aren't self-issued
-abbrev pub HasOthers : ℕ → List Certificate → Type 0
-HasOthers zero certificates = Unit {0}
-HasOthers (suc count) [] = ⊥
-HasOthers (suc count) (c ∷ behind) = ((IsSelfIssued c → ⊥) × HasOthers count behind) ⊎ HasOthers (suc count) behind
-
--- more of them aren't self-issued than may follow
-abbrev pub IsOver : Option ℕ → List Certificate → Type 0
-IsOver None certificates = ⊥
-IsOver (Some max_path_length) certificates = HasOthers (suc max_path_length) certificates
-
--- one of them has a path length, and more of those behind it aren't self-issued
-abbrev pub IsTooLong : List Certificate → Type 0
-IsTooLong [] = ⊥
-IsTooLong (c ∷ behind) = ((k : ℕ) × HasPathLen (extensions_of c) k × IsOver (Some k) behind) ⊎ IsTooLong behind
-
 -- ---- names (4.2.1.10)
 
 -- the constraints are those of the certificate
@@ -140,7 +118,7 @@ AreNamesAllowed inputs before c = (constraints : NameConstraints) → Apply inpu
 
 -- the certificate is asked for its names: it is the last one, or isn't self-issued
 abbrev pub IsAsked : Bool → Certificate → Type 0
-IsAsked is_last c = (is_last ≡ true) ⊎ (IsSelfIssued c → ⊥)
+IsAsked is_last c = (is_last ≡ true) ⊎ (IsSelfIssued NamesMatch c → ⊥)
 
 -- it is asked for them, and they aren't allowed
 abbrev pub HasOtherNames : Inputs → List Certificate → Bool → Certificate → Type 0
@@ -234,7 +212,8 @@ Breaks accepts inputs standing bytes c NotCa = (standing.is_last ≡ false) × (
 Breaks accepts inputs standing bytes c KeyUsage = (standing.is_last ≡ false) × certificates.LacksKeyCertSign (extensions_of c)
 -- 6.1.4 (l), (m)
 Breaks accepts inputs standing bytes c PathLen =
-    (standing.is_last ≡ false) × (IsOver inputs.trust.max_path_length (standing.before ++ c ∷ []) ⊎ IsTooLong (standing.before ++ c ∷ []))
+    (standing.is_last ≡ false)
+    × (IsOver NamesMatch inputs.trust.max_path_length (standing.before ++ c ∷ []) ⊎ IsTooLong NamesMatch (standing.before ++ c ∷ []))
 -- 6.1.3 (b), (c)
 Breaks accepts inputs standing bytes c Names =
     HasOtherNames inputs standing.before standing.is_last c ⊎ HasOtherCommonNames inputs standing.before standing.is_last c
@@ -323,10 +302,11 @@ pub record AreParameters (inputs : Inputs) (path : List (List ℕ)) (parameters 
   pub are : AreOf certificates path
   pub lends : SpellsOption (λ lent. lent.now) any parameters (parameters_of (key_behind inputs.trust.anchor.key certificates))
 
--- what a valid path gives
+-- what a valid path gives: also its certificates, lent
 abbrev pub Gives : Inputs → List (List ℕ) → Validated → Type 0
 Gives inputs path validated =
-    IsOfLast validated path × (IsUnder inputs path (octets_of validated.policies.items) × AreParameters inputs path validated.parameters)
+    IsOfLast validated path × (IsUnder inputs path (octets_of validated.policies.items)
+    × (AreParameters inputs path validated.parameters × (map (λ certificate. certificate.bytes.now) validated.certificates.items ≡ path)))
 
 -- What is answered to a path. Memory may be refused wherever there is an input.
 abbrev pub Answers : Accepting → Inputs → List (List ℕ) → Result Validated ValidationFault → Type 0

@@ -13,13 +13,13 @@ ghost use Rattle.x509_validation.specs.Keys as keyed;
 ghost use Rattle.x509_validation.specs.Trusts.{RefusesEncoding};
 
 use crate::oids::{content_of, first_content};
-use crate::signatures::known_value;
 use crate::trusted_buf::encoded;
 use std::alloc::Global;
 use x509_base::SubjectPublicKeyInfo;
 use x509_check::CertificateRef;
 use x509_der::{Any, Error};
 use x509_path::AnchorRef;
+use x509_path::trust::known_value;
 
 /// The encoding of NULL.
 const NULL: &[u8] = &[0x05, 0x00];

@@ -195,7 +195,7 @@ fn allows_attribute(
     sets.allows(alloc, &name)
 }
 
-/// The same of each of the attributes.
+/// Whether what each attribute is asked as, beside a SAN with these forms, is allowed.
 fn allows_attributes(
     alloc: Global,
     sets: &ConstraintSets,
@@ -213,7 +213,7 @@ fn allows_attributes(
     Ok(true)
 }
 
-/// The same of each attribute of the RDNs.
+/// Whether what each attribute of the RDNs is asked as, beside a SAN with these forms, is allowed.
 fn allows_rdns(
     alloc: Global,
     sets: &ConstraintSets,

@@ -23,7 +23,6 @@ mod processed;
 mod purposes;
 mod readable;
 mod settings;
-mod signatures;
 mod trusted;
 mod trusted_buf;
 mod validate;

@@ -145,7 +145,7 @@ pub(crate) fn limits_of(alloc: Global, signed: &TbsCertificate) -> Result<Limits
     })
 }
 
-/// The same of the certificate in the description of an anchor, if there is one.
+/// What the extensions of the certificate in the description of an anchor say; nothing where there is none.
 pub(crate) fn own_limits(alloc: Global, certificate: &Option<Certificate>) -> Result<Limits, Error>
     ensures { MatchResult result (λ limits. AreOwnLimits certificate.now limits)
         (λ e. (e.kind ≡ errors.Memory) ⊎ RefusesOwnLimits certificate.now e.kind) }

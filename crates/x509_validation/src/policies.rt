@@ -1,16 +1,17 @@
 //! What certificates say of policies, lent from their bytes, and the policies along a path.
 
 ghost use Rattle.std.specs.Option.{option_map};
-ghost use Rattle.std.specs.Prelude.{◌≡◌, ◌+◌, ◌↔◌, ◌<◌, ◌∷◌, ◌++◌, [], ℕ, IfOk, List, MatchResult, Option, Some, false, suc, length, map};
+ghost use Rattle.std.specs.Prelude.{◌≡◌, ◌+◌, ◌↔◌, ◌<◌, ◌∷◌, ◌++◌, [], ℕ, IfOk, IsTrue, List, MatchResult, Option, Some, false, suc, length, map};
 ghost use Rattle.x509_der.specs.Form.{Spells};
 ghost use Rattle.x509_ext.specs.CertificatePolicies.{certificate_policies};
 ghost use Rattle.x509_ext.specs.Identifiers.{id_ce};
 ghost use Rattle.x509_ext.specs.PolicyMapping.{policy_mappings};
 ghost use Rattle.x509_ext.specs.declared.pkix.certificate_policies.CertificatePolicies as found_policies;
 ghost use Rattle.x509_ext.specs.declared.pkix.policy_mapping.PolicyMappings as found_mappings;
+ghost use Rattle.x509_match.specs.Matching.{NamesMatch};
 ghost use Rattle.x509_path.specs.Certificates as certificates;
 ghost use Rattle.x509_validation.specs.Inputs.{LendsPolicies, asked_of, user_set};
-ghost use Rattle.x509_path.specs.Lent.{Lends, lent_extensions};
+ghost use Rattle.x509_path.specs.Lent.{lent_extensions};
 ghost use Rattle.x509_validation.specs.Says.{IsFound, Says, any_policy_inhibit_of, explicit_policy_of, identifiers, mapping_inhibit_of, mappings_of};
 ghost use Rattle.x509_validation.specs.Steps as reasons_for;
 ghost use Rattle.x509_validation.specs.Steps.{NoneUnreadable, StopsAt, chosen, said_by};
@@ -23,13 +24,12 @@ ghost use Rattle.x509_policy.specs.Values as policies;
 ghost use Rattle.x509_policy.specs.Values.{any_policy};
 ghost use Rattle.x509_policy.specs.Views.{certificate_of, mapping_of, octets_of, settings_of};
 
-use crate::matching::is_self_issued;
 use crate::oids::{content_of, first_oids, oid_pairs};
 use crate::settings::PathSettings;
 use crate::trusted::Trusted;
 use crate::validation_fault::{ValidationFault, ValidationReason};
 use std::alloc::{AllocError, Global};
-use x509_check::{CertificateRef, ExtensionRef};
+use x509_check::ExtensionRef;
 use x509_der::AssociatedOid;
 use x509_ext::pkix::{CertificatePolicies, InhibitAnyPolicy, PolicyConstraints, PolicyMappings};
 use x509_path::extensions::{find_one, payload};
@@ -54,7 +54,7 @@ pub(crate) struct Said<'a> {
     inhibit: Option<InhibitAnyPolicy>,
 
     /// Whether its subject matches its issuer.
-    is_self_issued: bool,
+    pub(crate) is_self_issued: bool,
 }
 
 /// The OIDs of the policies of which these are the octets, without qualifiers.
@@ -109,17 +109,16 @@ fn mappings_in<'a>(
 /// What the certificate says of policies. None of its extensions is one that can't be decoded.
 pub(crate) fn said_of<'a>(
     alloc: Global,
-    certificate: &CertificateRef<'a>,
+    is_self_issued: bool,
     extensions: &[ExtensionRef<'a>],
 ) -> Result<Said<'a>, AllocError>
-    ensures { IfOk result (λ said. (c : certificates.Certificate) → Lends certificate.now.bytes.now c
+    ensures { IfOk result (λ said. (c : certificates.Certificate) → IsTrue is_self_issued ↔ certificates.IsSelfIssued NamesMatch c
         → lent_extensions extensions.now ≡ certificates.extensions_of c → NoneUnreadable (certificates.extensions_of c) → Says c (said_by said)) }
 {
     let policies = policies_in(alloc, extensions)?;
     let mappings = mappings_in(alloc, extensions)?;
     let constraints = payload::<PolicyConstraints>(alloc, extensions);
     let inhibit = payload::<InhibitAnyPolicy>(alloc, extensions);
-    let is_self_issued = is_self_issued(alloc, certificate)?;
     Ok(Said {
         policies,
         mappings,
@@ -164,7 +163,7 @@ impl<'a> Said<'a> {
     ghost use Rattle.x509_validation.specs.Steps.{said_by};
     ghost use Rattle.x509_policy.specs.Views.{certificate_of};
 
-    /// The same, lent.
+    /// What the certificate says of policies, borrowed, as `x509_policy` takes it.
     fn view(&self) -> PolicyView<'_, 'a>
         ensures { certificate_of result ≡ said_by self.now }
     {

@@ -36,11 +36,12 @@ pub(crate) fn is_processed(asks_purpose: bool, extension: &ExtensionRef<'_>) -> 
     is_of_use(asks_purpose, extension) || is_about_policies(extension)
 }
 
-/// Whether the extension has the OID of the type.
+/// Whether the extension has the OID of the type. The last octets are compared first, which mostly tells two OIDs apart.
+#[inline(always)]
 fn is_of<T: AssociatedOid>(extension: &ExtensionRef<'_>) -> bool
     ensures { IsTrue result ↔ (extension.now.extn_id ≡ T.OID) }
 {
-    extension.extn_id == T::OID
+    extension.extn_id.as_bytes().last() == T::OID.as_bytes().last() && extension.extn_id == T::OID
 }
 
 /// Whether the extension says what the certificate is for, or which names are allowed.
@@ -78,10 +79,7 @@ pub(crate) fn lacks_usage(alloc: Global, asked: KeyUsage, extensions: &[Extensio
 fn is_spelled<T: AssociatedOid + Check>(extension: &ExtensionRef<'_>) -> bool
     ensures { IsTrue result ↔ IsSpelled T.form T.OID (lent_extension extension.now) }
 {
-    if extension.extn_id != T::OID {
-        return true;
-    }
-    T::check(extension.extn_value).is_ok()
+    !is_of::<T>(extension) || T::check(extension.extn_value).is_ok()
 }
 
 /// Whether the extension can be decoded, if it says what the certificate is for, or which names are allowed.

@@ -306,7 +306,7 @@ impl TrustedBuf {
         TrustedBuf::from_trust_anchor(alloc, &anchor)
     }
 
-    /// The same, lent.
+    /// What is trusted, borrowed from this value.
     pub fn as_trusted(&self) -> Trusted<'_>
         ensures { (trust : Trust) → HoldsTrust self.now trust → LendsTrust result trust }
     {

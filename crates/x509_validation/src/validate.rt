@@ -15,19 +15,20 @@ ghost use Rattle.x509_policy.specs.Views.{octets_of};
 use crate::above::Above;
 use crate::asked::{Asked, purposes_at_start};
 use crate::initial::{add_own, initial_sets};
-use crate::matching::length_behind;
 use crate::policies::{
     add_said, any_policy_alone, end_said, merged_with, settings_at_start, user_policies,
 };
 use crate::readable::are_readable;
 use crate::settings::PathSettings;
-use crate::signatures::{OfSlices, OfValues, Signatures};
 use crate::trusted::Trusted;
 use crate::validated::Validated;
 use crate::validation_fault::ValidationFault;
 use crate::validator::{Limits, Stand, Validator};
 use std::alloc::Global;
 use x509_check::CertificateRef;
+use x509_path::extensions::path_len;
+use x509_path::lengths::narrow;
+use x509_path::trust::{Slices, Trust, Values};
 use x509_path::{SliceVerifier, Verifier};
 use x509_policy::PolicyState;
 
@@ -44,7 +45,7 @@ fn split_path<'s, 'a>(path: &'s [&'a [u8]]) -> Option<(&'s [&'a [u8]], &'a [u8])
 
 /// The certificate of these bytes, which isn't the last, where nothing is wrong with it, and what it says of those below it;
 /// `index` is its place.
-fn go_on<'a, S: Signatures>(
+fn go_on<'a, S: Trust>(
     validator: &Validator<'_, S>,
     stand: &Stand<'_, 'a>,
     state: &mut PolicyState<'_, 'a>,
@@ -69,13 +70,14 @@ fn go_on<'a, S: Signatures>(
     }
 }
 
-/// What the last certificate gives, of these bytes, where nothing is wrong with it; `index` is its place.
-fn end<'a, S: Signatures>(
+/// What the last certificate gives, of these bytes, where nothing is wrong with it; `index` is its place, `certificates` are those above it.
+fn end<'a, S: Trust>(
     validator: &Validator<'_, S>,
     stand: &Stand<'_, 'a>,
     state: &PolicyState<'_, 'a>,
     bytes: &'a [u8],
     index: usize,
+    certificates: Vec<CertificateRef<'a>>,
 ) -> Result<Validated<'a>, ValidationFault>
     ensures { (inputs : Inputs) (above : Anchor) (before : List Certificate)
         → Stands inputs above before validator.now.moment stand.now.above stand.now.max_path_length stand.now.sets.now
@@ -83,6 +85,7 @@ fn end<'a, S: Signatures>(
         (λ validated. (c : Certificate) × LendsAnchor validated.subject (subject_of c)
         × SpellsOption (λ lent. lent.now) any validated.parameters (parameters_of (key_behind inputs.trust.anchor.key (before ++ c ∷ [])))
         × EndsUnder inputs (before ++ c ∷ []) (octets_of validated.policies.items)
+        × (map (λ lent. lent.bytes.now) validated.certificates.items ≡ map (λ lent. lent.bytes.now) certificates.entry.items ++ bytes.now ∷ [])
         × Judges (S.accepts validator.now.signatures.now) inputs (standing above before true (suc (length before))) bytes.now index (Ok c))
         (λ e. Judges (S.accepts validator.now.signatures.now) inputs (standing above before true (suc (length before))) bytes.now index (Err e)) }
 {
@@ -91,18 +94,24 @@ fn end<'a, S: Signatures>(
         Err(e) => return Err(e),
     };
     let below = stand.above.below(&certificate);
+    let mut path = certificates;
+    match path.push(certificate) {
+        Ok(()) => {}
+        Err(_) => return Err(ValidationFault::Memory),
+    }
     match end_said(validator.alloc, state, &limits.policies, index) {
         Ok(policies) => Ok(Validated {
             subject: below.anchor,
             parameters: below.parameters(),
             policies,
+            certificates: path,
         }),
         Err(e) => Err(e),
     }
 }
 
 /// Validates the certificates of a path: those above the last, and the last; `policies` is the state before the first.
-fn walk_down<'a, S: Signatures>(
+fn walk_down<'a, S: Trust>(
     validator: &Validator<'_, S>,
     trusted: &Trusted<'a>,
     front: &[&'a [u8]],
@@ -125,6 +134,7 @@ fn walk_down<'a, S: Signatures>(
     let mut state = policies;
     let mut above = Above::new(trusted.anchor);
     let mut max_path_length = trusted.max_path_length;
+    let mut certificates = Vec::with_capacity(alloc, front.len() + 1)?;
     for (index, bytes) in front.iter().enumerate() {
         let stand = Stand {
             above,
@@ -137,14 +147,17 @@ fn walk_down<'a, S: Signatures>(
             Err(e) => return Err(e),
         };
         above = above.below(&certificate);
-        max_path_length = length_behind(
-            alloc,
+        max_path_length = narrow(
             max_path_length,
-            &certificate,
-            limits.basic_constraints,
-        )?;
+            limits.policies.is_self_issued,
+            path_len(limits.basic_constraints),
+        );
         add_own(alloc, &mut sets.names, &limits.name_constraints)?;
         sets.purposes = limits.purposes;
+        match certificates.push(certificate) {
+            Ok(()) => {}
+            Err(_) => return Err(ValidationFault::Memory),
+        }
     }
     let stand = Stand {
         above,
@@ -152,14 +165,14 @@ fn walk_down<'a, S: Signatures>(
         sets: &sets,
         is_last: true,
     };
-    match end(validator, &stand, &state, last, front.len()) {
+    match end(validator, &stand, &state, last, front.len(), certificates) {
         Ok(validated) => Ok(validated),
         Err(e) => Err(e),
     }
 }
 
 /// Validates the certificates of a path under the policies at the start: those above the last, and the last.
-fn walk_under<'a, S: Signatures>(
+fn walk_under<'a, S: Trust>(
     alloc: Global,
     trusted: &Trusted<'a>,
     front: &[&'a [u8]],
@@ -184,7 +197,7 @@ fn walk_under<'a, S: Signatures>(
 }
 
 /// Validates the certificates of a path.
-fn walk<'a, S: Signatures>(
+fn walk<'a, S: Trust>(
     alloc: Global,
     trusted: &Trusted<'a>,
     path: &[&'a [u8]],
@@ -236,7 +249,11 @@ pub fn validate_path<'a, V: Verifier>(
         → Answers (V.accepts verifier.now) inputs (map (λ input. input.now) path.now) result }
     ensures unreadable { AreUnreadable trusted.now settings.now → AnswersUnreadable (map (λ input. input.now) path.now) result }
 {
-    walk(alloc, trusted, path, settings, &OfValues { verifier })
+    let signatures = Values {
+        anchor: None,
+        verifier,
+    };
+    walk(alloc, trusted, path, settings, &signatures)
 }
 
 /// [`validate_path`] with a verifier that is handed encodings.
@@ -255,5 +272,9 @@ pub fn validate_path_lent<'a, V: SliceVerifier>(
         → Answers (V.accepts verifier.now) inputs (map (λ input. input.now) path.now) result }
     ensures unreadable { AreUnreadable trusted.now settings.now → AnswersUnreadable (map (λ input. input.now) path.now) result }
 {
-    walk(alloc, trusted, path, settings, &OfSlices { verifier })
+    let signatures = Slices {
+        anchor: &trusted.anchor,
+        verifier,
+    };
+    walk(alloc, trusted, path, settings, &signatures)
 }

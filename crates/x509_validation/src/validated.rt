@@ -1,5 +1,6 @@
 //! What a valid path gives.
 
+use x509_check::CertificateRef;
 use x509_path::AnchorRef;
 
 /// What a valid path gives (RFC 5280 6.1.6).
@@ -17,4 +18,8 @@ pub struct Validated<'a> {
     /// OID, lent from a certificate, from what is trusted or from the settings. Any-policy is one of them. There are none
     /// where the certificates name none and none is asked for.
     pub policies: Vec<&'a [u8]>,
+
+    /// The certificates of the path, the topmost first, lent from their bytes: a caller who verifies the signatures has in them the
+    /// signed parts, the algorithms, the signatures and the keys, without another walk over the bytes.
+    pub certificates: Vec<CertificateRef<'a>>,
 }

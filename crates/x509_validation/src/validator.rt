@@ -11,24 +11,25 @@ ghost use Rattle.x509_validation.specs.declared.validation_fault.ValidationReaso
 use crate::above::{Above, filled_in};
 use crate::asked::{Asked, is_authority};
 use crate::common_names::allows_common_names;
-use crate::matching::{is_asked, is_over, names_match};
+use crate::matching::{is_asked, is_self_issued, names_match};
 use crate::policies::{Said, said_of};
 use crate::processed::{are_processed, are_spelled, lacks_usage, owned_payload};
 use crate::purposes::{is_any_asked, is_none_left, purposes_behind};
-use crate::signatures::{Signatures, known_value};
 use crate::validation_fault::{ValidationFault, ValidationReason};
 use std::alloc::{AllocError, Global};
 use x509_base::DateTime;
 use x509_cert::certificate::Version;
-use x509_cert::laws::one_signed_part;
 use x509_check::{CertificateRef, ExtensionRef};
 use x509_constraints::is_usable;
 use x509_ext::pkix::{BasicConstraints, NameConstraints, SubjectAltName};
 use x509_name::name::Name;
-use x509_path::certificate::{Signed, has_two_algorithms, is_outside, signed_of};
+use x509_path::AnchorRef;
+use x509_path::certificate::{has_two_algorithms, is_outside};
 use x509_path::extensions::{
-    basic_constraints, collect, front, gather, is_repeated, lacks_key_cert_sign, places,
+    basic_constraints, is_repeated, lacks_key_cert_sign, lend_all, places,
 };
+use x509_path::lengths::is_over;
+use x509_path::trust::{Trust, is_signed, known_value};
 
 /// The reasons after `Decode`, in their order, those of policies apart.
 const REASONS: [ValidationReason; 15] = [
@@ -73,6 +74,9 @@ struct Parts<'s, 'a> {
 
     /// Its extensions.
     extensions: &'s [ExtensionRef<'a>],
+
+    /// Whether its subject matches its issuer.
+    is_self_issued: bool,
 
     /// The value of its BasicConstraints, where another certificate follows.
     basic_constraints: Option<BasicConstraints>,
@@ -148,17 +152,13 @@ pub(crate) fn has_other_version(
     !extensions.is_empty() && certificate.version() != Version::V3
 }
 
-impl<S: Signatures> Validator<'_, S> {
+impl<S: Trust> Validator<'_, S> {
     ghost use Rattle.std.specs.Prelude.{◌≡◌, ◌↔◌, ◌⊎◌, ℕ, List, Ok, Err, IfOk, IsTrue, MatchResult, true, false};
     ghost use Rattle.x509_match.specs.Matching.{NamesMatch};
     ghost use Rattle.x509_path.specs.Certificates as certificates;
     ghost use Rattle.x509_validation.specs.Inputs.{Inputs};
     ghost use Rattle.x509_path.specs.Lent.{Lends, LendsAnchor, lent_extensions};
-    ghost use Rattle.x509_base.specs.AlgorithmIdentifier.{algorithm_identifier};
-    ghost use Rattle.x509_base.specs.declared.algorithm_identifier.AlgorithmIdentifier as algorithms;
     ghost use Rattle.x509_base.specs.declared.subject_public_key_info.SubjectPublicKeyInfo as keys;
-    ghost use Rattle.x509_der.specs.Form.{Spells};
-    ghost use Rattle.x509_prim.specs.BitString.{BitParts, bit_string};
     ghost use Rattle.x509_validation.specs.Steps.{HoldsKey, IsOwn, JudgesAlone, JudgesParts, Knows, Stands, standing};
     ghost use Rattle.x509_validation.specs.Validation.{AreCommonNamesAllowed, AreNamesAllowed, Breaks, HasOtherCommonNames, HasOtherNames, LackPurpose, asked_at};
     ghost use Rattle.x509_path.specs.declared.anchor.Anchor.{Anchor};
@@ -177,62 +177,37 @@ impl<S: Signatures> Validator<'_, S> {
         Ok(!is_same)
     }
 
-    /// Whether the verifier accepts the signature for the key above, as that is used.
-    fn is_accepted(&self, stand: &Stand<'_, '_>, signed: &Signed<'_>) -> Result<bool, AllocError>
-        ensures { IfOk result (λ b. (key : keys.SubjectPublicKeyInfo) (algorithm : algorithms.AlgorithmIdentifier) (bits : BitParts)
-            → HoldsKey stand.now.above key → Spells algorithm_identifier algorithm signed.now.algorithm.now
-            → Spells bit_string bits signed.now.signature.now → b ≡ S.accepts self.now.signatures.now algorithm key signed.now.message.now bits) }
-    {
-        let own = stand.above.anchor.key;
-        let Some(parameters) = stand.above.inherited else {
-            return self.signatures.is_accepted(self.alloc, own, signed);
-        };
-        match filled_in(self.alloc, own, parameters) {
-            Ok(filled) => self
-                .signatures
-                .is_accepted(self.alloc, filled.as_slice(), signed),
-            Err(_) => Err(AllocError),
-        }
-    }
-
-    /// Whether the verifier accepts the signature of the signed part, as it stands in the bytes.
+    /// Whether the verifier accepts the signature of the signed part, as it stands in the bytes, for the key above, as that is used.
     fn is_signed(
         &self,
         stand: &Stand<'_, '_>,
         certificate: &CertificateRef<'_>,
     ) -> Result<bool, AllocError>
-        ensures { IfOk result (λ b. (c : certificates.Certificate) (key : keys.SubjectPublicKeyInfo) → Lends certificate.now.bytes.now c
-            → HoldsKey stand.now.above key → IsTrue b ↔ certificates.IsSigned (S.accepts self.now.signatures.now) key certificate.now.bytes.now c) }
+        ensures { IfOk result (λ b. (c : certificates.Certificate) (above : Anchor) (key : keys.SubjectPublicKeyInfo) → Lends certificate.now.bytes.now c
+            → LendsAnchor stand.now.above.anchor above → HoldsKey stand.now.above key
+            → IsTrue b ↔ certificates.IsSigned (S.accepts self.now.signatures.now) key certificate.now.bytes.now c) }
     {
-        one_signed_part();
-        let signed = signed_of(certificate);
-        let accepted = self.is_accepted(stand, &signed)?;
-        Ok(accepted)
-    }
-
-    /// Whether more certificates follow one above than may, the certificate being one of them.
-    fn is_too_deep(
-        &self,
-        stand: &Stand<'_, '_>,
-        certificate: &CertificateRef<'_>,
-    ) -> Result<bool, AllocError>
-        ensures { IfOk result (λ b. (inputs : Inputs) (above : Anchor) (before : List certificates.Certificate) (n : ℕ) (c : certificates.Certificate)
-            → Stands inputs above before self.now.moment stand.now.above stand.now.max_path_length stand.now.sets.now → Lends certificate.now.bytes.now c
-            → IsTrue b ↔ Breaks (S.accepts self.now.signatures.now) inputs (standing above before stand.now.is_last n) certificate.now.bytes.now c
-            reasons.PathLen) }
-    {
-        if stand.is_last {
-            return Ok(false);
-        }
-        let is_over = is_over(self.alloc, stand.max_path_length, certificate)?;
-        Ok(is_over)
+        let own = stand.above.anchor;
+        let Some(parameters) = stand.above.inherited else {
+            return is_signed(self.alloc, self.signatures, &Some(own), certificate);
+        };
+        let filled = match filled_in(self.alloc, own.key, parameters) {
+            Ok(filled) => filled,
+            Err(_) => return Err(AllocError),
+        };
+        let above = AnchorRef {
+            name: own.name,
+            key: filled.as_slice(),
+        };
+        is_signed(self.alloc, self.signatures, &Some(above), certificate)
     }
 
     /// Whether the names of the certificate are allowed.
     fn are_allowed(&self, stand: &Stand<'_, '_>, parts: &Parts<'_, '_>) -> Result<bool, AllocError>
         ensures { IfOk result (λ b. (inputs : Inputs) (above : Anchor) (before : List certificates.Certificate) (c : certificates.Certificate)
             → Stands inputs above before self.now.moment stand.now.above stand.now.max_path_length stand.now.sets.now
-            → Knows c parts.now.certificate.now.bytes.now parts.now.extensions.now stand.now.is_last parts.now.basic_constraints parts.now.name_constraints.now
+            → Knows c parts.now.certificate.now.bytes.now parts.now.extensions.now stand.now.is_last parts.now.is_self_issued
+            parts.now.basic_constraints parts.now.name_constraints.now
             → IsTrue b ↔ AreNamesAllowed inputs before c) }
     {
         let subject = known_value::<Name>(self.alloc, parts.certificate.subject())?;
@@ -253,13 +228,14 @@ impl<S: Signatures> Validator<'_, S> {
     ) -> Result<bool, AllocError>
         ensures { IfOk result (λ b. (inputs : Inputs) (above : Anchor) (before : List certificates.Certificate) (c : certificates.Certificate)
             → Stands inputs above before self.now.moment stand.now.above stand.now.max_path_length stand.now.sets.now
-            → Knows c parts.now.certificate.now.bytes.now parts.now.extensions.now stand.now.is_last parts.now.basic_constraints parts.now.name_constraints.now
+            → Knows c parts.now.certificate.now.bytes.now parts.now.extensions.now stand.now.is_last parts.now.is_self_issued
+            parts.now.basic_constraints parts.now.name_constraints.now
             → IsTrue b ↔ HasOtherNames inputs before stand.now.is_last c) }
     {
         if !stand.sets.names.is_any {
             return Ok(false);
         }
-        if !is_asked(self.alloc, stand.is_last, parts.certificate)? {
+        if !is_asked(stand.is_last, parts.is_self_issued) {
             return Ok(false);
         }
         let are_allowed = self.are_allowed(stand, parts)?;
@@ -274,7 +250,8 @@ impl<S: Signatures> Validator<'_, S> {
     ) -> Result<bool, AllocError>
         ensures { IfOk result (λ b. (inputs : Inputs) (above : Anchor) (before : List certificates.Certificate) (c : certificates.Certificate)
             → Stands inputs above before self.now.moment stand.now.above stand.now.max_path_length stand.now.sets.now
-            → Knows c parts.now.certificate.now.bytes.now parts.now.extensions.now stand.now.is_last parts.now.basic_constraints parts.now.name_constraints.now
+            → Knows c parts.now.certificate.now.bytes.now parts.now.extensions.now stand.now.is_last parts.now.is_self_issued
+            parts.now.basic_constraints parts.now.name_constraints.now
             → IsTrue b ↔ AreCommonNamesAllowed inputs before c) }
     {
         let subject = known_value::<Name>(self.alloc, parts.certificate.subject())?;
@@ -296,7 +273,8 @@ impl<S: Signatures> Validator<'_, S> {
     ) -> Result<bool, AllocError>
         ensures { IfOk result (λ b. (inputs : Inputs) (above : Anchor) (before : List certificates.Certificate) (c : certificates.Certificate)
             → Stands inputs above before self.now.moment stand.now.above stand.now.max_path_length stand.now.sets.now
-            → Knows c parts.now.certificate.now.bytes.now parts.now.extensions.now stand.now.is_last parts.now.basic_constraints parts.now.name_constraints.now
+            → Knows c parts.now.certificate.now.bytes.now parts.now.extensions.now stand.now.is_last parts.now.is_self_issued
+            parts.now.basic_constraints parts.now.name_constraints.now
             → IsTrue b ↔ HasOtherCommonNames inputs before stand.now.is_last c) }
     {
         if !stand.sets.uses.constrain_common_names || !stand.is_last {
@@ -313,7 +291,8 @@ impl<S: Signatures> Validator<'_, S> {
     fn breaks_names(&self, stand: &Stand<'_, '_>, parts: &Parts<'_, '_>) -> Result<bool, AllocError>
         ensures { IfOk result (λ b. (inputs : Inputs) (above : Anchor) (before : List certificates.Certificate) (n : ℕ) (c : certificates.Certificate)
             → Stands inputs above before self.now.moment stand.now.above stand.now.max_path_length stand.now.sets.now
-            → Knows c parts.now.certificate.now.bytes.now parts.now.extensions.now stand.now.is_last parts.now.basic_constraints parts.now.name_constraints.now
+            → Knows c parts.now.certificate.now.bytes.now parts.now.extensions.now stand.now.is_last parts.now.is_self_issued
+            parts.now.basic_constraints parts.now.name_constraints.now
             → IsTrue b ↔ Breaks (S.accepts self.now.signatures.now) inputs (standing above before stand.now.is_last n) parts.now.certificate.now.bytes.now c
             reasons.Names) }
     {
@@ -348,7 +327,8 @@ impl<S: Signatures> Validator<'_, S> {
     ) -> Result<bool, AllocError>
         ensures { IfOk result (λ b. (inputs : Inputs) (above : Anchor) (before : List certificates.Certificate) (n : ℕ) (c : certificates.Certificate)
             → Stands inputs above before self.now.moment stand.now.above stand.now.max_path_length stand.now.sets.now
-            → Knows c parts.now.certificate.now.bytes.now parts.now.extensions.now stand.now.is_last parts.now.basic_constraints parts.now.name_constraints.now
+            → Knows c parts.now.certificate.now.bytes.now parts.now.extensions.now stand.now.is_last parts.now.is_self_issued
+            parts.now.basic_constraints parts.now.name_constraints.now
             → IsOwn reason → IsTrue b
             ↔ Breaks (S.accepts self.now.signatures.now) inputs (standing above before stand.now.is_last n) parts.now.certificate.now.bytes.now c reason) }
     {
@@ -374,7 +354,9 @@ impl<S: Signatures> Validator<'_, S> {
             ValidationReason::KeyUsage => {
                 Ok(!stand.is_last && lacks_key_cert_sign(self.alloc, extensions))
             }
-            ValidationReason::PathLen => self.is_too_deep(stand, certificate),
+            ValidationReason::PathLen => {
+                Ok(!stand.is_last && is_over(stand.max_path_length, parts.is_self_issued))
+            }
             ValidationReason::Usage => Ok(
                 stand.is_last && lacks_usage(self.alloc, stand.sets.uses.key_usage, extensions),
             ),
@@ -404,9 +386,11 @@ impl<S: Signatures> Validator<'_, S> {
     {
         let basic_constraints = basic_constraints(self.alloc, stand.is_last, extensions);
         let name_constraints = name_constraints(self.alloc, stand.is_last, extensions)?;
+        let is_self_issued = is_self_issued(self.alloc, certificate)?;
         let parts = Parts {
             certificate,
             extensions,
+            is_self_issued,
             basic_constraints,
             name_constraints: &name_constraints,
         };
@@ -419,66 +403,13 @@ impl<S: Signatures> Validator<'_, S> {
             }
         }
         let purposes = purposes_behind(self.alloc, stand.sets, stand.is_last, extensions)?;
-        let policies = said_of(self.alloc, certificate, extensions)?;
+        let policies = said_of(self.alloc, is_self_issued, extensions)?;
         Ok(Limits {
             basic_constraints,
             name_constraints,
             purposes,
             policies,
         })
-    }
-
-    /// The same of a certificate with any number of extensions.
-    fn judge_many<'a>(
-        &self,
-        stand: &Stand<'_, 'a>,
-        certificate: &CertificateRef<'a>,
-        index: usize,
-    ) -> Result<Limits<'a>, ValidationFault>
-        ensures { (inputs : Inputs) (above : Anchor) (before : List certificates.Certificate) (n : ℕ) (c : certificates.Certificate)
-            → Stands inputs above before self.now.moment stand.now.above stand.now.max_path_length stand.now.sets.now → Lends certificate.now.bytes.now c
-            → JudgesParts (S.accepts self.now.signatures.now) inputs (standing above before stand.now.is_last n) certificate.now.bytes.now index c result }
-    {
-        match collect(self.alloc, certificate.extensions()) {
-            Ok(many) => self.judge_parts(stand, certificate, many.as_slice(), index),
-            Err(_) => Err(ValidationFault::Memory),
-        }
-    }
-
-    /// The same, without memory where the places are enough for its extensions.
-    fn judge_within<'a>(
-        &self,
-        stand: &Stand<'_, 'a>,
-        certificate: &CertificateRef<'a>,
-        few: &mut [ExtensionRef<'a>],
-        index: usize,
-    ) -> Result<Limits<'a>, ValidationFault>
-        ensures { (inputs : Inputs) (above : Anchor) (before : List certificates.Certificate) (n : ℕ) (c : certificates.Certificate)
-            → Stands inputs above before self.now.moment stand.now.above stand.now.max_path_length stand.now.sets.now → Lends certificate.now.bytes.now c
-            → JudgesParts (S.accepts self.now.signatures.now) inputs (standing above before stand.now.is_last n) certificate.now.bytes.now index c result }
-    {
-        match gather(certificate.extensions(), few) {
-            Some(count) => {
-                let extensions = front(few, count);
-                self.judge_parts(stand, certificate, extensions, index)
-            }
-            None => self.judge_many(stand, certificate, index),
-        }
-    }
-
-    /// The same, without memory for up to 16 extensions.
-    fn judge_read<'a>(
-        &self,
-        stand: &Stand<'_, 'a>,
-        certificate: &CertificateRef<'a>,
-        index: usize,
-    ) -> Result<Limits<'a>, ValidationFault>
-        ensures { (inputs : Inputs) (above : Anchor) (before : List certificates.Certificate) (n : ℕ) (c : certificates.Certificate)
-            → Stands inputs above before self.now.moment stand.now.above stand.now.max_path_length stand.now.sets.now → Lends certificate.now.bytes.now c
-            → JudgesParts (S.accepts self.now.signatures.now) inputs (standing above before stand.now.is_last n) certificate.now.bytes.now index c result }
-    {
-        let mut few = places();
-        self.judge_within(stand, certificate, &mut few, index)
     }
 
     /// The certificate of these bytes, where nothing is wrong with it, its policies apart, and what it says of those below it;
@@ -499,7 +430,10 @@ impl<S: Signatures> Validator<'_, S> {
             Ok(certificate) => certificate,
             Err(_) => return Err(unreadable(index)),
         };
-        match self.judge_read(stand, &certificate, index) {
+        let mut few = places();
+        let mut many = Vec::new(self.alloc);
+        let extensions = lend_all(self.alloc, certificate.extensions(), &mut few, &mut many)?;
+        match self.judge_parts(stand, &certificate, extensions, index) {
             Ok(limits) => Ok((certificate, limits)),
             Err(e) => Err(e),
         }

@@ -3,7 +3,6 @@ use Rattle.std.proofs.lemmas.Bool.{eqb-false, eqb-true}
 use Rattle.std.proofs.lemmas.List.{nil_from_length}
 use Rattle.x509_der.specs.Any.{any}
 use Rattle.x509_validation.specs.Inputs.{SpellsOption}
-use Rattle.x509_validation.specs.Keys.{given}
 use Rattle.x509_validation.proofs.WorkingKeys.{none_given, some_given}
 use Rattle.x509_validation.proofs.above.given.Goals as goal
 

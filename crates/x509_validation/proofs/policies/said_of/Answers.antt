@@ -9,7 +9,7 @@ use Rattle.x509_validation.specs.Steps.{NoneUnreadable}
 use Rattle.x509_validation.proofs.policies.said_of.Goals as goal
 
 pub returns : goal.returns
-returns c = λ certificate lends same spelled.
+returns c = λ certificate own same spelled.
     let readable = subst NoneUnreadable (sym same) spelled in
     let policies = c.in_ok-policies.ensures readable in
     let mappings = c.in_ok-mappings.ensures readable in
@@ -27,5 +27,5 @@ returns c = λ certificate lends same spelled.
       is_explicit = refl;
       is_mapping = refl;
       is_any = refl;
-      is_own = c.in_ok-is_self_issued.ensures certificate lends;
+      is_own = own;
     }

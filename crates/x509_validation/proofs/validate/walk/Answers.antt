@@ -1,4 +1,4 @@
-use Rattle.std.proofs.Common.{◌≡◌, ◌∙◌, ◌++◌, ◌∷◌, [], Bor, ℕ, List, Err, map, refl, subst, sym}
+use Rattle.std.proofs.Common.{◌∙◌, Bor, ℕ, List, Err, map, refl, subst, sym}
 use Rattle.std.proofs.lemmas.Bool.{true≢false}
 use Rattle.x509_validation.specs.Validation.{Answers, AnswersUnreadable}
 use Rattle.x509_validation.specs.declared.validation_fault.ValidationFault.TheVariants.{Empty, Initial}
@@ -19,6 +19,6 @@ returns-then-not-are_readable g c = record {
 
 pub returns : goal.returns
 returns g c = record {
-  lent = λ inputs lends. subst (λ path. Answers (g.S.Signatures.accepts c.args.signatures.now) inputs path c.walk_under.result) (sym c.in-Some.ensures) (c.walk_under.ensures inputs lends);
+  lent = λ inputs lends. subst (λ path. Answers (g.S.Trust.accepts c.args.signatures.now) inputs path c.walk_under.result) (sym c.in-Some.ensures) (c.walk_under.ensures inputs lends);
   unreadable = λ none. let (inputs, lends) = c.are_readable.ensures.0 c.if-not-are_readable.false in absurd (none inputs lends);
 }

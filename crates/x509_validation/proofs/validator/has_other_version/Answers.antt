@@ -1,9 +1,8 @@
-use Rattle.std.proofs.Common.{◌≡◌, ◌∙◌, ◌==◌, true, ap, length, not, sym}
+use Rattle.std.proofs.Common.{◌∙◌, ◌==◌, ap, length, not, sym}
 use Rattle.std.proofs.lemmas.Bool.{eqb-true, true≢false}
 use Rattle.std.proofs.lemmas.List.{nil_from_length}
 use Rattle.x509_cert.specs.contracts.certificate.version.Version.{enum as versions}
 use Rattle.x509_cert.specs.declared.certificate.version.Version.TheVariants.{V3}
-use Rattle.x509_check.specs.declared.lent.extension.ExtensionRef.{ExtensionRef}
 use Rattle.x509_der.specs.Exact.{exact_bare}
 use Rattle.x509_path.proofs.Lent.{differ}
 use Rattle.x509_path.specs.Certificates.{extensions_of}

@@ -1,4 +1,4 @@
-use Rattle.std.proofs.Common.{◌≡◌, ◌∙◌, Bor, List, ℕ, None, ap, subst, sym}
+use Rattle.std.proofs.Common.{◌∙◌, Bor, List, ℕ, ap, subst, sym}
 use Rattle.std.proofs.lemmas.Bool.{not-false, not-true}
 use Rattle.std.specs.Prelude.{bytes_eq}
 use Rattle.x509_der.specs.Any.{any}

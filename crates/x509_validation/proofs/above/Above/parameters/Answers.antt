@@ -1,4 +1,4 @@
-use Rattle.std.proofs.Common.{Bor, List, ℕ, ap, subst, sym}
+use Rattle.std.proofs.Common.{Bor, List, ℕ, subst, sym}
 use Rattle.x509_der.specs.Any.{any}
 use Rattle.x509_validation.specs.Inputs.{SpellsOption}
 use Rattle.x509_validation.specs.Keys.{parameters_of}

@@ -1,4 +1,4 @@
-use Rattle.std.proofs.Common.{◌≡◌, ◌≢◌, ◌⊎◌, ◌∙◌, [], inl, inr, refl, subst, sym}
+use Rattle.std.proofs.Common.{◌≢◌, ◌∙◌, [], inl, inr, refl, subst, sym}
 use Rattle.std.proofs.lemmas.Bool.{true≢false}
 use Rattle.std.proofs.lemmas.Result.{err_from_is_err_and}
 use Rattle.x509_check.specs.ExtensionRefs.{extensions_left}

@@ -1,17 +1,19 @@
 use Rattle.std.proofs.Common.{◌↔◌, subst}
 use Rattle.std.proofs.lemmas.Result.{IfOk-weaker}
 use Rattle.std.specs.Bool.{IsTrue}
+use Rattle.x509_match.specs.Matching.{NamesMatch}
 use Rattle.x509_path.specs.Certificates.{extensions_of}
 use Rattle.x509_validation.specs.Keys.{key_behind}
 use Rattle.x509_validation.specs.Steps.{asked_before}
 use Rattle.x509_validation.specs.Validation.{AreProcessed, AreSpelled, asks_purpose}
 use Rattle.x509_path.proofs.Lent.{differ}
+use Rattle.x509_path.proofs.PathLengths.{too_deep}
 use Rattle.x509_validation.proofs.validator.Validator.breaks.Goals as goal
 
 pub returns-in_ok-is_signed-in-Signature : goal.returns-in_ok-is_signed-in-Signature
 returns-in_ok-is_signed-in-Signature g c = λ inputs above before n certificate stands knows own.
     rw c.in-Signature.is (differ c.in_ok-is_signed-in-Signature.field-0
-    (c.in_ok-is_signed-in-Signature.ensures certificate (key_behind inputs.trust.anchor.key before) knows.lends stands.key))
+    (c.in_ok-is_signed-in-Signature.ensures certificate above (key_behind inputs.trust.anchor.key before) knows.lends stands.lends stands.key))
 
 pub returns-in-Critical : goal.returns-in-Critical
 returns-in-Critical g c = λ inputs above before n certificate stands knows own.
@@ -26,8 +28,10 @@ returns-in-Extension g c = λ inputs above before n certificate stands knows own
     let said : IsTrue c.are_spelled.result ↔ AreSpelled (extensions_of certificate) = subst (λ es. IsTrue c.are_spelled.result ↔ AreSpelled es) knows.extensions c.are_spelled.ensures in
     rw c.in-Extension.is (differ c.are_spelled.result said)
 
-pub returns-in-PathLen : goal.returns-in-PathLen
-returns-in-PathLen g c = IfOk-weaker c.is_too_deep.result _ _ (λ b said inputs above before n certificate stands knows own. rw c.in-PathLen.is (said inputs above before n certificate stands knows.lends)) c.is_too_deep.ensures
+pub returns-then-not-stand-3 : goal.returns-then-not-stand-3
+returns-then-not-stand-3 g c = λ inputs above before n certificate stands knows own.
+    let many = too_deep NamesMatch certificate c.args.parts.now.is_self_issued knows.own c.is_over.result inputs.trust.max_path_length before c.args.stand.now.max_path_length stands.leaves c.is_over.ensures in
+    rw c.in-PathLen.is ((λ is. (c.if-not-stand-3.true, many.0 is)), (λ h. many.1 h.1))
 
 pub returns-in-Purpose : goal.returns-in-Purpose
 returns-in-Purpose g c = IfOk-weaker c.lacks_purpose.result _ _ (λ b said inputs above before n certificate stands knows own. rw c.in-Purpose.is (said inputs above before certificate stands knows.extensions)) c.lacks_purpose.ensures

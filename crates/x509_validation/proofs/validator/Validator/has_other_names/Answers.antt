@@ -13,4 +13,4 @@ returns-then-not-stand g c = λ inputs above before certificate stands knows. (
 pub returns : goal.returns
 returns g c = λ inputs above before certificate stands knows.
     let other = differ c.in_ok-are_allowed.are_allowed (c.in_ok-are_allowed.ensures inputs above before certificate stands knows) in
-    ((λ is. ((c.in_ok-is_asked.ensures certificate knows.lends).0 c.if-not-branch.false, other.0 is)), (λ (asked, denied). other.1 denied))
+    ((λ is. ((c.is_asked.ensures certificate knows.own).0 c.if-not-is_asked.false, other.0 is)), (λ (asked, denied). other.1 denied))

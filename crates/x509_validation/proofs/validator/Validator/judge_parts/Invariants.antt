@@ -13,4 +13,4 @@ abbrev pub invariant-loop-reason : goal.invariant-loop-reason
 invariant-loop-reason g l =
     (inputs : Inputs) (above : Anchor) (before : List Certificate) (n : ℕ) (c : Certificate) → Stands inputs above before l.self.moment l.stand.above l.stand.max_path_length l.stand.sets.now
     → Lends l.fn.certificate.bytes.now c → lent_extensions l.fn.extensions ≡ extensions_of c
-    → All (λ r. Breaks (g.S.Signatures.accepts l.self.signatures.now) inputs (standing above before l.stand.is_last n) l.fn.certificate.bytes.now c r → ⊥) (take l.reason-index own_reasons)
+    → All (λ r. Breaks (g.S.Trust.accepts l.self.signatures.now) inputs (standing above before l.stand.is_last n) l.fn.certificate.bytes.now c r → ⊥) (take l.reason-index own_reasons)
