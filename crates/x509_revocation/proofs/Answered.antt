@@ -6,7 +6,7 @@ use Rattle.x509_revocation.specs.Lent.{LendsAll, LendsGiven, Steps}
 use Rattle.x509_revocation.specs.Points.{all_reasons}
 use Rattle.x509_revocation.specs.Says.{GivenCrl, Question}
 use Rattle.x509_revocation.specs.Status.{Answers, AnswersFrom, last_status, minus}
-use Rattle.x509_revocation.specs.declared.says.Step.TheVariants.{Left, Revoked}
+use Rattle.x509_revocation.specs.declared.steps.Step.TheVariants.{Left, Revoked}
 use Rattle.x509_revocation.specs.declared.signed_crl.SignedCrl.{SignedCrl}
 use Rattle.x509_revocation.specs.declared.status.Revocation.{Revocation}
 use Rattle.x509_revocation.specs.declared.status.RevocationStatus.{RevocationStatus}

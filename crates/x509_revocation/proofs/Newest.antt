@@ -13,7 +13,7 @@ use Rattle.x509_revocation.specs.Entries.{FindsEntry}
 use Rattle.x509_revocation.specs.Lent.{LendsAll, LendsCrl, LendsGiven}
 use Rattle.x509_revocation.specs.LentDeltas.{IsNewer, IsNewestAmong, IsNewestOf, IsNoNewer}
 use Rattle.x509_revocation.specs.Says.{FindsDelta, GivenCrl, IsCurrentDelta, IsDeltaTo, Question}
-use Rattle.x509_revocation.specs.declared.says.Newest.{Newest}
+use Rattle.x509_revocation.specs.declared.steps.Newest.{Newest}
 use Rattle.x509_revocation.specs.declared.signed_crl.SignedCrl.{SignedCrl}
 use Rattle.x509_revocation.proofs.Older.{not_older, older_other, older_through}
 

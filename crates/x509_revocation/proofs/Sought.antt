@@ -9,7 +9,7 @@ use Rattle.x509_revocation.specs.Entries.{FindsEntry}
 use Rattle.x509_revocation.specs.Lent.{Steps, step_of}
 use Rattle.x509_revocation.specs.Says.{FindsAt, GivenCrl, Question, Says, deltas_among}
 use Rattle.x509_revocation.specs.Status.{AddsTo, minus}
-use Rattle.x509_revocation.specs.declared.says.Step.{Step}
+use Rattle.x509_revocation.specs.declared.steps.Step.{Step}
 use Rattle.x509_revocation.specs.declared.status.Revocation.{Revocation}
 
 -- ---- the delta CRL, and the complete one

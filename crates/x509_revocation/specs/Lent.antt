@@ -10,8 +10,8 @@ use Rattle.x509_path.specs.declared.anchor_ref.AnchorRef.{AnchorRef}
 use Rattle.x509_revocation.specs.Crls.{Crl}
 use Rattle.x509_revocation.specs.Says.{GivenCrl, Question, Says}
 use Rattle.x509_revocation.specs.Status.{AddsTo, IsUnused, minus}
-use Rattle.x509_revocation.specs.declared.says.Step.{Step}
-use Rattle.x509_revocation.specs.declared.says.Step.TheVariants.{Left, Revoked}
+use Rattle.x509_revocation.specs.declared.steps.Step.{Step}
+use Rattle.x509_revocation.specs.declared.steps.Step.TheVariants.{Left, Revoked}
 use Rattle.x509_revocation.specs.declared.settings.RevocationSettings.{RevocationSettings}
 use Rattle.x509_revocation.specs.declared.signed_crl.SignedCrl.{SignedCrl}
 use Rattle.x509_revocation.specs.declared.status.Revocation.{Revocation}

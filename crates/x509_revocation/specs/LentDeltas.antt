@@ -7,7 +7,7 @@ use Rattle.x509_revocation.specs.Crls.{Crl, IsOlder}
 use Rattle.x509_revocation.specs.Entries.{FindsEntry}
 use Rattle.x509_revocation.specs.Lent.{LendsCrl}
 use Rattle.x509_revocation.specs.Says.{GivenCrl, IsDeltaTo, Question}
-use Rattle.x509_revocation.specs.declared.says.Newest.{Newest}
+use Rattle.x509_revocation.specs.declared.steps.Newest.{Newest}
 
 -- a CRL is newer than the newest so far, if there is one
 abbrev pub IsNewer : Option Newest → Crl → Type 0

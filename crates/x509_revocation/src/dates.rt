@@ -42,7 +42,7 @@ pub(crate) fn is_current(settings: &RevocationSettings, crl: &CrlRef<'_>) -> boo
     is_before_next(settings, crl.next_update())
 }
 
-/// Whether the CRL is in date.
+/// (a): whether the CRL is in date.
 pub(crate) fn is_in_date(settings: &RevocationSettings, crl: &CrlRef<'_>) -> bool
     ensures { (list : Crl) → LendsCrl crl.now.bytes.now list → IsTrue result ↔ IsInDate settings.now.without_next_update settings.now.moment list }
 {

@@ -1,4 +1,4 @@
-//! The entries of a CRL.
+//! The entries of a CRL (RFC 5280 5.3, 6.3.3 (i) to (k)).
 
 ghost use Rattle.std.specs.List.{All};
 ghost use Rattle.std.specs.Prelude.{◌≡◌, ◌↔◌, List, option_map, IfOk, IsTrue, MatchOption};
@@ -37,8 +37,8 @@ fn extensions_of<'a>(entry: &RevokedCertRef<'a>) -> ExtensionRefs<'a>
     }
 }
 
-/// Whether the certificate's issuer issued that of the entry with these extensions, by whether it issued that of the one before it; `None`
-/// where the entry has a CertificateIssuer that can't be used.
+/// Whether the certificate's issuer issued that of the entry with these extensions, by whether it issued that of the one before it
+/// (RFC 5280 5.3.3); `None` where the entry has a CertificateIssuer that can't be used.
 fn issuer_at(
     alloc: Global,
     certificate: &CertificateRef<'_>,
@@ -66,7 +66,7 @@ fn issuer_at(
 
 /// The same; `None` also where a critical extension isn't processed. Extensions that aren't critical and don't name an issuer are passed over,
 /// since they change nothing.
-fn settle(
+fn issuer_of_extensions(
     alloc: Global,
     certificate: &CertificateRef<'_>,
     is_indirect: bool,
@@ -88,7 +88,7 @@ fn settle(
 
 /// The same of an entry.
 #[inline(always)]
-fn settle_entry(
+fn issuer_of_entry(
     alloc: Global,
     certificate: &CertificateRef<'_>,
     is_indirect: bool,
@@ -100,22 +100,33 @@ fn settle_entry(
         → Settles is_indirect own c.tbs_certificate.issuer before (members (option_map extensions_left entry.now.crl_entry_extensions)) here) }
 {
     match &entry.crl_entry_extensions {
-        Some(extensions) => settle(alloc, certificate, is_indirect, is_issuer, extensions),
+        Some(extensions) => issuer_of_extensions(
+            alloc,
+            certificate,
+            is_indirect,
+            is_issuer,
+            extensions,
+        ),
         None => Ok(Some(is_issuer)),
     }
 }
 
-/// Whether the entry is that of the certificate with the serial number, by whether its issuer issued that of the entry.
+/// Whether the entry is that of the certificate with the serial number, by whether its issuer issued that of the entry. The last octets are
+/// compared first, since serial numbers of one issuer often begin alike.
 #[inline(always)]
 fn is_of(is_issuer: bool, entry: &UndatedCertRef<'_>, serial_number: &[u8]) -> bool
     ensures { IsTrue result ↔ (IsTrue is_issuer × (entry.now.serial_number.now ≡ serial_number.now)) }
 {
-    is_issuer && entry.serial_number == serial_number
+    let number = entry.serial_number;
+    is_issuer && number.last() == serial_number.last() && number == serial_number
 }
 
-/// The first entry of the certificate; `None` where an entry stands against the use of the CRL, which is an indirect one or
-/// not. In one pass over the entries.
-pub(crate) fn look_up<'a>(
+/// (i) of a delta CRL, (j) of a complete one: the first entry of the certificate; `None` where an entry stands against the use of
+/// the CRL (5.3), which is an indirect one or not. In one pass over the entries.
+///
+/// Each critical extension of the entries is a [`CrlReason`] or a [`CertificateIssuer`] that can be decoded. A CertificateIssuer
+/// stands in entries of an indirect CRL alone, no entry has two, and each can be decoded and has a directory name.
+pub(crate) fn find_entry<'a>(
     alloc: Global,
     certificate: &CertificateRef<'_>,
     crl: &CrlRef<'a>,
@@ -130,7 +141,7 @@ pub(crate) fn look_up<'a>(
     let mut entries = crl.entries();
     let mut found: Option<RevokedCertRef<'a>> = None;
     while let Some(entry) = entries.next_undated() {
-        let here = settle_entry(alloc, certificate, is_indirect, is_issuer, &entry)?;
+        let here = issuer_of_entry(alloc, certificate, is_indirect, is_issuer, &entry)?;
         let Some(is_here) = here else {
             return Ok(None);
         };
@@ -162,8 +173,9 @@ fn reason_of(alloc: Global, entry: &RevokedCertRef<'_>) -> CrlReason
     }
 }
 
-/// By which CRL, since when and why a certificate is revoked, by what was found of it; `None` where it isn't revoked.
-pub(crate) fn tell(alloc: Global, found: &Found<'_>) -> Option<Revocation>
+/// (k): by which CRL, since when and why a certificate is revoked, by what (i) and (j) found of it; `None` where it isn't revoked:
+/// it has no entry, or its reason is removeFromCRL.
+pub(crate) fn step_k(alloc: Global, found: &Found<'_>) -> Option<Revocation>
     ensures { Tells (placed_entry found.now) result }
 {
     let Some(entry) = &found.entry else {

@@ -9,16 +9,16 @@ ghost use Rattle.x509_revocation.specs.Lent.{LendsAll, LendsGiven, question};
 ghost use Rattle.x509_revocation.specs.Says.{GivenCrl};
 
 use crate::dates::{is_begun, is_current};
-use crate::entries::look_up;
+use crate::entries::find_entry;
 use crate::fault::CrlFault;
 use crate::points::{is_indirect, points_of};
 use crate::reasons::{all_reasons, minus};
-use crate::says::{
-    Asked, has_one_algorithm, is_anchor, is_complete, is_of_signer, is_processed, is_signed,
-};
-use crate::scope::{are_in_scope, covered, is_of_issuer, list_of};
+use crate::scope::{are_in_scope, is_of_issuer, list_of, steps_b_d};
 use crate::settings::RevocationSettings;
 use crate::signed_crl::SignedCrl;
+use crate::steps::{
+    Asked, has_one_algorithm, is_anchor, is_complete, is_of_signer, is_processed, is_signed,
+};
 use std::alloc::{AllocError, Global};
 use x509_check::{CertificateRef, CrlRef};
 use x509_der::Error;
@@ -100,7 +100,7 @@ impl<V: SliceVerifier> Asked<'_, '_, '_, '_, V> {
         let Some(list) = listed else {
             return Ok(false);
         };
-        let covered = covered(self.alloc, self.certificate, self.points, crl, &list)?;
+        let covered = steps_b_d(self.alloc, self.certificate, self.points, crl, &list)?;
         let Some(reasons) = covered else {
             return Ok(false);
         };
@@ -128,7 +128,7 @@ impl<V: SliceVerifier> Asked<'_, '_, '_, '_, V> {
         let Some(list) = listed else {
             return Ok(false);
         };
-        match look_up(self.alloc, self.certificate, crl, is_indirect(&list)) {
+        match find_entry(self.alloc, self.certificate, crl, is_indirect(&list)) {
             Ok(Some(_)) => Ok(true),
             Ok(None) => Ok(false),
             Err(e) => Err(e),

@@ -7,7 +7,6 @@
 //! [`SliceVerifier`](x509_path::SliceVerifier). Words of our own are explained in `docs/MAP.md`.
 #![tactic(auto)]
 
-mod ages;
 mod dates;
 mod deltas;
 mod entries;
@@ -18,15 +17,16 @@ mod issuers;
 pub mod laws;
 mod names;
 mod numbers;
+mod older_crl;
 mod points;
 mod reasons;
 mod revocation;
-mod says;
 mod scope;
 mod settings;
 mod signed_crl;
 mod signers;
 mod status;
+mod steps;
 
 pub use fault::CrlFault;
 pub use faults::crl_fault;

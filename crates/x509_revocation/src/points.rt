@@ -221,7 +221,8 @@ impl Sides<'_> {
         }
     }
 
-    /// Whether the CRL is under a name of the point, where it is under a name.
+    /// (b) (2) (i): whether the CRL is under a name of the point, where it is under a name. One of its names matches one of the
+    /// point's; directory names match as RFC 5280 7.1 says, other names where they are equal.
     fn has_place(&self, point: &DistributionPoint) -> Result<bool, AllocError>
         ensures { IfOk result (λ b. (sides : scopes.Sides) → LendsSides self.now sides
             → IsTrue b ↔ scopes.HasPlace sides point.now (scopes.place_of sides.list)) }
@@ -235,7 +236,8 @@ impl Sides<'_> {
         }
     }
 
-    /// Whether the issuer of the CRL is that of the point.
+    /// (b) (1): whether the issuer of the CRL is that of the point. It is in the point's cRLIssuer (and the CRL is an indirect one,
+    /// or the issuer is that of the certificate), or where there is none is that of the certificate.
     fn has_issuer(&self, crl_issuer: &Option<GeneralNames>) -> Result<bool, AllocError>
         ensures { IfOk result (λ b. (sides : scopes.Sides) → LendsSides self.now sides → IsTrue b ↔ scopes.HasIssuer sides crl_issuer.now) }
     {
@@ -299,7 +301,7 @@ impl Sides<'_> {
         }
     }
 
-    /// The reasons, with those that the CRL covers of the point.
+    /// (d), (l): the reasons, with those that the CRL covers of the point.
     fn with_point(
         &self,
         reasons: ReasonFlags,

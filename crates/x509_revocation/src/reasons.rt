@@ -1,4 +1,4 @@
-//! Sets of reasons.
+//! Sets of reasons, among them the masks of RFC 5280 6.3.3.
 
 ghost use Rattle.std.specs.Int.RustNames.{bit_or};
 ghost use Rattle.std.specs.Prelude.{◌≡◌, ◌↔◌, IsTrue};
@@ -29,7 +29,7 @@ pub(crate) fn all_reasons() -> ReasonFlags
     ReasonFlags::from_bits_retain(0x1FE)
 }
 
-/// The reasons of a point and those for which alone a CRL is, together.
+/// (d): the reasons of a point and those for which alone a CRL is, together.
 pub(crate) fn interim_reasons(point: Option<ReasonFlags>, some: Option<ReasonFlags>) -> ReasonFlags
     ensures { result ≡ points.interim_reasons point some }
 {
@@ -45,7 +45,7 @@ pub(crate) fn interim_reasons(point: Option<ReasonFlags>, some: Option<ReasonFla
     }
 }
 
-/// The reasons of both.
+/// (l): the reasons of both.
 pub(crate) fn joined(a: ReasonFlags, b: ReasonFlags) -> ReasonFlags
     ensures { result ≡ record { 0 = bit_or a.0 b.0 } }
 {

@@ -1,4 +1,4 @@
-//! Which certificates a CRL is about, and which reasons it covers.
+//! Which certificates a CRL is about, and which reasons it covers (RFC 5280 6.3.3 (b), (d)).
 
 ghost use Rattle.std.specs.Prelude.{◌≡◌, ◌↔◌, ◌∷◌, IfOk, IsTrue, MatchOption, Option};
 ghost use Rattle.x509_ext.specs.declared.pkix.issuing_distribution_point.IssuingDistributionPoint as lists;
@@ -30,7 +30,7 @@ fn is_ca(alloc: Global, certificate: &CertificateRef<'_>) -> bool
     }
 }
 
-/// Whether the certificate is in the scope; it is that of a certification authority or not.
+/// (b) (2) (ii) to (iv): whether the certificate is in the scope; it is that of a certification authority or not.
 fn is_in_scope(point: &IssuingDistributionPoint, is_ca: bool) -> bool
     ensures { (c : Certificate) → (IsTrue is_ca ↔ IsCa (extensions_of c)) → IsTrue result ↔ IsInScope c point.now }
 {
@@ -97,8 +97,9 @@ pub(crate) fn list_of(
     }
 }
 
-/// The reasons that the CRL covers, of those points and of the one that is assumed; `None` where the certificate isn't in its scope.
-pub(crate) fn covered(
+/// (b), (d): the reasons that the CRL covers, of those points and of the one that is assumed; `None` where the certificate isn't in
+/// its scope. Those of each point that it is that of are joined at once (l).
+pub(crate) fn steps_b_d(
     alloc: Global,
     certificate: &CertificateRef<'_>,
     points: &[DistributionPoint],
@@ -117,7 +118,7 @@ pub(crate) fn covered(
     Ok(Some(reasons))
 }
 
-/// Whether one of those points, or the one that is assumed, is for CRLs of the CRL's issuer.
+/// (b) (1): whether one of those points, or the one that is assumed, is for CRLs of the CRL's issuer.
 pub(crate) fn is_of_issuer(
     alloc: Global,
     certificate: &CertificateRef<'_>,
