@@ -22,7 +22,9 @@ HEAD = """# The rules of `x509_lint_web`, with sections and days from memory of 
 and the day from which it is in force; without a day it was from the beginning.
 
 - A certificate of a *TLS server* has no basic constraints, or ones that are read and don't set cA, and no EKU, or one that is read and has serverAuth.
-- One of an *authority that may stand above TLS servers* has basic constraints that are read and set cA, and such an EKU or none.
+- One of an *authority that may stand above TLS servers* has basic constraints that are read and set cA, and such an EKU or none. One of these is that of a
+  *root* where the issuer is the subject, and SKI and AKI, where both are read, don't tell two keys.
+- One of an *OCSP responder* has such basic constraints as a TLS server's or none, and an EKU that is read and has OCSPSigning, but not serverAuth.
 - What an extension says is judged where there is one of its type alone, and it is read. What RFC 5280 says just as strictly is a rule of `x509_lint`
   (`docs/RULES.md`).
 

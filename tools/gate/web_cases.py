@@ -11,7 +11,7 @@ import re
 
 from cryptography import x509
 from cryptography.hazmat.primitives import hashes, serialization
-from cryptography.hazmat.primitives.asymmetric import ec, ed25519, rsa
+from cryptography.hazmat.primitives.asymmetric import ec, ed25519, padding, rsa
 from cryptography.x509.oid import AuthorityInformationAccessOID, ExtendedKeyUsageOID, NameOID, ObjectIdentifier
 
 PAGE = pathlib.Path(__file__).resolve().parents[2] / "docs/WEB_RULES.md"
@@ -23,10 +23,13 @@ RSA_KEY, EC_KEY = rsa.generate_private_key(65537, 2048), ec.generate_private_key
 MODULUS = RSA_KEY.public_key().public_numbers().n.to_bytes(256, "big")
 KEY_ID = bytes(20)
 COMMON_NAME, ORGANIZATION, COUNTRY = NameOID.COMMON_NAME, NameOID.ORGANIZATION_NAME, NameOID.COUNTRY_NAME
-UNIT, LOCALITY = NameOID.ORGANIZATIONAL_UNIT_NAME, NameOID.LOCALITY_NAME
-SERVER_AUTH, CLIENT_AUTH = ExtendedKeyUsageOID.SERVER_AUTH, ExtendedKeyUsageOID.CLIENT_AUTH
+UNIT, LOCALITY, STATE = NameOID.ORGANIZATIONAL_UNIT_NAME, NameOID.LOCALITY_NAME, NameOID.STATE_OR_PROVINCE_NAME
+SURNAME, GIVEN_NAME, SERIAL_NUMBER, STREET = NameOID.SURNAME, NameOID.GIVEN_NAME, NameOID.SERIAL_NUMBER, NameOID.STREET_ADDRESS
+CATEGORY, JURISDICTION = NameOID.BUSINESS_CATEGORY, NameOID.JURISDICTION_COUNTRY_NAME
+SERVER_AUTH, CLIENT_AUTH, OCSP_SIGNING = ExtendedKeyUsageOID.SERVER_AUTH, ExtendedKeyUsageOID.CLIENT_AUTH, ExtendedKeyUsageOID.OCSP_SIGNING
 OCSP, CA_ISSUERS = AuthorityInformationAccessOID.OCSP, AuthorityInformationAccessOID.CA_ISSUERS
-DOMAIN_VALIDATED, ORGANIZATION_VALIDATED = "2.23.140.1.2.1", "2.23.140.1.2.2"
+DOMAIN_VALIDATED, ORGANIZATION_VALIDATED, INDIVIDUAL_VALIDATED, EXTENDED_VALIDATION = "2.23.140.1.2.1", "2.23.140.1.2.2", "2.23.140.1.2.3", "2.23.140.1.1"
+ANY_POLICY = "2.5.29.32.0"
 BITS = "digital_signature content_commitment key_encipherment data_encipherment key_agreement key_cert_sign crl_sign encipher_only decipher_only".split()
 
 
@@ -75,6 +78,16 @@ def accesses(*all_accesses):
     return x509.AuthorityInformationAccess([x509.AccessDescription(method, uri(text)) for method, text in all_accesses])
 
 
+SMALL_PRIMES = [number for number in range(3, 752) if all(number % other for other in range(2, number))]
+
+# IANA's registries of special-purpose addresses, and multicast
+RESERVED = """
+0.0.0.0/8 10.0.0.0/8 100.64.0.0/10 127.0.0.0/8 169.254.0.0/16 172.16.0.0/12 192.0.0.0/24 192.0.2.0/24 192.31.196.0/24 192.52.193.0/24 192.88.99.0/24
+192.168.0.0/16 192.175.48.0/24 198.18.0.0/15 198.51.100.0/24 203.0.113.0/24 224.0.0.0/4 240.0.0.0/4
+::/128 ::1/128 ::ffff:0:0/96 64:ff9b::/96 64:ff9b:1::/48 100::/64 100:0:0:1::/64 2001::/23 2001:db8::/32 2002::/16 2620:4f:8000::/48 3fff::/20 5f00::/16
+fc00::/7 fe80::/10 ff00::/8
+"""
+
 # ---- certificates that break no rule, and changes of them
 
 AUTHORITY = name((COMMON_NAME, "I"), (ORGANIZATION, "o"), (COUNTRY, "NL"))
@@ -97,13 +110,50 @@ ABOVE_SERVERS = {
     "issuer_key": (x509.AuthorityKeyIdentifier(KEY_ID, None, None), False),
     "policies": (policies(DOMAIN_VALIDATED), False),
     "points": (points(point()), False),
+    "accesses": (accesses((CA_ISSUERS, "http://o.example.net/i")), False),
 }
+ROOT = {
+    "constraints": (x509.BasicConstraints(True, None), True),
+    "usage": (key_usage("key_cert_sign", "crl_sign"), True),
+    "key_id": (x509.SubjectKeyIdentifier(KEY_ID), False),
+    "issuer_key": (x509.AuthorityKeyIdentifier(KEY_ID, None, None), False),
+}
+RESPONDER = {
+    "usage": (key_usage("digital_signature"), True),
+    "purposes": (key_purposes(OCSP_SIGNING), False),
+    "key_id": (x509.SubjectKeyIdentifier(KEY_ID), False),
+    "issuer_key": (x509.AuthorityKeyIdentifier(KEY_ID, None, None), False),
+    "no_check": (x509.OCSPNoCheck(), False),
+}
+# the order of attributes
+ORDER = [
+    *(NameOID.DOMAIN_COMPONENT, COUNTRY, STATE, LOCALITY, NameOID.POSTAL_CODE, STREET),
+    *(ORGANIZATION, SURNAME, GIVEN_NAME, UNIT, COMMON_NAME),
+]
+# the attributes that a subject has to have, by what is validated
+ATTRIBUTES = {ORGANIZATION_VALIDATED: ((COUNTRY, "NL"), (LOCALITY, "x"), (ORGANIZATION, "o"))}
+ATTRIBUTES[INDIVIDUAL_VALIDATED] = ((COUNTRY, "NL"), (LOCALITY, "x"), (SURNAME, "s"), (GIVEN_NAME, "g"))
+ATTRIBUTES[EXTENDED_VALIDATION] = (*ATTRIBUTES[ORGANIZATION_VALIDATED], (CATEGORY, "Private Organization"), (SERIAL_NUMBER, "1"), (JURISDICTION, "NL"))
 
 
-def certificate(extensions, subject, days, key=None, issuer=AUTHORITY, lasts=-SECOND, marked=(), unmarked=(), patches=(), **changed):
+def certificate(
+    extensions,
+    subject,
+    days,
+    key=None,
+    issuer=AUTHORITY,
+    lasts=-SECOND,
+    marked=(),
+    unmarked=(),
+    patches=(),
+    salt=None,
+    digest=hashes.SHA256(),
+    **changed,
+):
     """A certificate with such extensions: those of `changed` are others, or left out where they are None; those that are marked are critical.
 
-    It is valid for the days and what `lasts` adds, with the last second in it. Of its octets some are others, as `patches` says.
+    It is valid for the days and what `lasts` adds, with the last second in it. It is signed by RSASSA-PSS where the length of the salt is given. Of its octets
+    some are others, as `patches` says.
     """
     found = extensions | {it: (value, extensions.get(it, (None, False))[1]) for it, value in changed.items()}
     builder = x509.CertificateBuilder().subject_name(subject).issuer_name(issuer).public_key(key or RSA_KEY.public_key()).serial_number(2**100 + 1)
@@ -111,7 +161,8 @@ def certificate(extensions, subject, days, key=None, issuer=AUTHORITY, lasts=-SE
     for it, (value, critical) in found.items():
         if value is not None:
             builder = builder.add_extension(value, critical and it not in unmarked or it in marked)
-    octets = builder.sign(RSA_KEY, hashes.SHA256()).public_bytes(serialization.Encoding.DER)
+    scheme = padding.PSS(padding.MGF1(digest), salt) if salt else None
+    octets = builder.sign(RSA_KEY, digest, rsa_padding=scheme).public_bytes(serialization.Encoding.DER)
     for old, new in patches:
         assert len(old) == len(new) and old in octets
         octets = octets.replace(old, new)
@@ -129,9 +180,31 @@ def authority(**changed):
     return certificate(**{"extensions": ABOVE_SERVERS, "subject": subject, "days": 3650, **changed})
 
 
-def validated(**changed):
-    """A certificate of a TLS server whose organization is validated."""
-    return server(**{"policies": policies(ORGANIZATION_VALIDATED), "subject": name((COUNTRY, "NL"), (ORGANIZATION, "o")), **changed})
+def root(**changed):
+    """One of a root that breaks no rule, changed so."""
+    subject = changed.pop("subject", name((COMMON_NAME, "S"), (ORGANIZATION, "o"), (COUNTRY, "NL")))
+    return certificate(**{"extensions": ROOT, "subject": subject, "issuer": subject, "days": 3650, **changed})
+
+
+def responder(**changed):
+    """One of an OCSP responder that breaks no rule, changed so."""
+    subject = name((COMMON_NAME, "R"), (ORGANIZATION, "o"), (COUNTRY, "NL"))
+    return certificate(**{"extensions": RESPONDER, "subject": subject, "days": 90, **changed})
+
+
+def modulus(factor=1, others=SMALL_PRIMES, above=0):
+    """The octets of an odd multiple of the factor near the modulus of the key; together with what stands above, none of the others divides it."""
+    number = int.from_bytes(MODULUS, "big") // (2 * factor) * (2 * factor) + factor
+    while any((above + number) % other == 0 for other in others):
+        number -= 2 * factor
+    return number.to_bytes(256, "big")
+
+
+def validated(policy=ORGANIZATION_VALIDATED, without=(), more=(), **changed):
+    """A certificate of a TLS server of which more than the domain is validated. Its subject lacks attributes of some types, and has some more."""
+    attributes = [*(it for it in ATTRIBUTES[policy] if it[0] not in without), *more]
+    subject = name(*sorted(attributes, key=lambda it: ORDER.index(it[0]) if it[0] in ORDER else len(ORDER)))
+    return server(**{"policies": policies(policy), "subject": subject, **changed})
 
 
 # ---- certificates, each with the rules that it breaks
@@ -141,7 +214,10 @@ def clean_ones():
     yield server(), ""
     yield server(**OF_EC), ""
     yield authority(), ""
-    yield authority(issuer=name((COMMON_NAME, "S"), (ORGANIZATION, "o"), (COUNTRY, "NL")), policies=None, points=None, purposes=None), ""
+    yield root(), ""
+    yield responder(), ""
+    for policy in ATTRIBUTES:
+        yield validated(policy), ""
 
 
 def field_rules():
@@ -152,6 +228,11 @@ def field_rules():
     yield server(patches=[(of_rsa, of_rsa[:-1] + b"\x0e")]), "signature_algorithm_other"
     yield server(patches=[(of_rsa + b"\5\0", of_rsa + b"\x0c\0")]), "rsa_signature_parameters_not_null"
     yield server(patches=[(of_rsa + b"\5\0", of_ec)]), "ecdsa_signature_parameters_present"
+    yield server(patches=[(of_rsa, of_rsa[:-1] + b"\x0a")]), "rsa_pss_parameters_other"
+    for digest in (hashes.SHA256(), hashes.SHA384(), hashes.SHA512()):
+        yield server(digest=digest, salt=digest.digest_size), ""
+        yield server(digest=digest, salt=20), "rsa_pss_parameters_other"
+        yield server(digest=digest), ""
     of_issuer = x509.AuthorityKeyIdentifier(KEY_ID, [x509.DirectoryName(AUTHORITY)], 5)
     yield server(issuer_key=of_issuer), "authority_cert_issuer_present"
     yield server(marked=["points"]), "crl_distribution_points_critical"
@@ -170,8 +251,11 @@ def key_rules():
         yield server(**OF_EC | {"key": ec.generate_private_key(curve).public_key()}), rules
     yield server(key=rsa.generate_private_key(65537, 1024).public_key()), "rsa_modulus_short"
     yield server(key=rsa.generate_private_key(65537, 2047).public_key()), "rsa_modulus_short rsa_modulus_uneven"
-    yield server(patches=[(b"\0" + MODULUS, b"\1" + MODULUS)]), "rsa_modulus_uneven"
-    yield server(patches=[(MODULUS, MODULUS[:-1] + bytes([MODULUS[-1] - 1]))]), "rsa_modulus_even"
+    yield server(patches=[(b"\0" + MODULUS, b"\1" + modulus(above=2**2048))]), "rsa_modulus_uneven"
+    yield server(patches=[(MODULUS, modulus(2))]), "rsa_modulus_even"
+    for factor in (3, 5, 251, 257, 743, 751):
+        yield server(patches=[(MODULUS, modulus(factor, ()))]), "rsa_modulus_small_factor"
+    yield server(patches=[(MODULUS, modulus(757))]), ""
     yield server(patches=[(MODULUS + exponent, MODULUS + b"\2\3\1\0\2")]), "rsa_exponent_invalid"
     yield server(patches=[(MODULUS + exponent, MODULUS + b"\2\3\1\0\3")]), ""
     yield server(key=rsa.generate_private_key(3, 2048).public_key()), "rsa_exponent_outside"
@@ -186,7 +270,9 @@ def validity_rules():
 
 
 def host_rules():
-    for text in ("a.example.com", "xn--c.example.com", "XN--d.example.com", "local.com", "a.test.com", "a.onion"):
+    service = "duckduckgogg42xjoc72x3sjasowoarfbgcmvfimaftt6twagswzczad"
+    right = "a.example.com", "xn--c.example.com", "XN--d.example.com", "local.com", "a.test.com", "a.alternative", "1.2.3.com", "a.b.1c", "a.arpa", "a.onions"
+    for text in (*right, "in-addr.arpa", "a.xip6.arpa", f"{service}.onion", f"a.{service.upper()}.ONION", f"*.{service}.onion"):
         yield server(names=hosts(text)), ""
     yield server(names=hosts("a_b.example.com")), "dns_name_underscore"
     yield server(names=hosts("ab--c.example.com")), "dns_name_reserved_label"
@@ -194,14 +280,28 @@ def host_rules():
         yield server(names=hosts(text)), "dns_name_wildcard"
     for text in ("com", "*.com"):
         yield server(names=hosts(text)), "dns_name_one_label"
-    for text in ("a.local", "b.TEST", "c.example", "d.invalid", "e.localHost"):
+    for text in ("a.local", "b.TEST", "c.example", "d.invalid", "e.localHost", "f.alt", "g.internal"):
         yield server(names=hosts("a.example.com", text)), "dns_name_internal"
     yield server(names=hosts("localhost")), "dns_name_internal dns_name_one_label"
-    reserved = "10.1.2.3 127.0.0.1 0.1.2.3 192.168.1.1 172.16.0.1 172.31.255.255 169.254.1.1 100.64.0.1 198.19.0.1 240.0.0.1 255.255.255.255"
-    for text in f"{reserved} ::1 :: fe80::1 febf::1 fc00::1 fdff::1 2001:db8::1".split():
-        yield server(names=addresses("9.9.9.9", text)), "address_reserved"
-    others = "9.1.2.3 172.15.0.1 172.32.0.1 192.169.1.1 169.253.1.1 100.128.0.1 198.20.0.1 11.0.0.1"
-    for text in f"{others} fec0::1 2001:db9::1 2600::1 fb00::1".split():
+    for text in ("10.1.2.3", "a.b.1", "a.09"):
+        yield server(names=hosts("a.example.com", text)), "dns_name_numeric"
+    yield server(names=hosts("12")), "dns_name_numeric dns_name_one_label"
+    for text in ("1.2.0.192.in-addr.arpa", "8.b.d.0.1.0.0.2.IP6.ARPA"):
+        yield server(names=hosts("a.example.com", text)), "dns_name_reverse"
+    # one character more, one less, another end, and characters that base 32 doesn't have
+    for text in ("a", f"a{service}", service[1:], f"{service[:-1]}c", f"1{service[1:]}", f"8{service[1:]}", f"-{service[1:]}", f"{service}.a"):
+        yield server(names=hosts("a.example.com", f"{text}.onion")), "dns_name_onion_other"
+    yield server(names=hosts("onion")), "dns_name_onion_other dns_name_one_label"
+    blocks = [ipaddress.ip_network(it) for it in RESERVED.split()]
+    for block in blocks:
+        for address in (block[0], block[-1]):
+            yield server(names=addresses("9.9.9.9", str(address))), "address_reserved"
+        for number in (int(block[0]) - 1, int(block[-1]) + 1):
+            if 0 <= number < 2**block.max_prefixlen:
+                address = type(block[0])(number)
+                is_reserved = any(address in it for it in blocks if it.version == block.version)
+                yield server(names=addresses(str(address))), "address_reserved" if is_reserved else ""
+    for text in "9.1.2.3 172.15.0.1 192.169.1.1 11.0.0.1 fec0::1 2001:db9::1 2600::1 fb00::1 100:0:0:2::1".split():
         yield server(names=addresses(text)), ""
 
 
@@ -226,8 +326,8 @@ def name_rules():
     # a colon makes a text one of an address of version 6 alone, which is written without the dots of an IPv4 address
     for text, address, rules in (
         ("2600::1", "9.9.9.9", stray),
-        ("::ffff:909:909", "::ffff:9.9.9.9", "common_name_present"),
-        ("::ffff:9.9.9.9", "::ffff:9.9.9.9", rewritten),
+        ("::ffff:909:909", "::ffff:9.9.9.9", "common_name_present address_reserved"),
+        ("::ffff:9.9.9.9", "::ffff:9.9.9.9", f"{rewritten} address_reserved"),
     ):
         yield server(subject=name((COUNTRY, "NL"), (COMMON_NAME, text)), names=addresses(address)), rules
     # a text in Unicode is one of a host with a label of IDNA alone
@@ -239,19 +339,15 @@ def name_rules():
         ("b\u00fc.example.com", "xn-b-xga.example.com", stray),
     ):
         yield server(subject=name((COUNTRY, "NL"), (COMMON_NAME, text)), names=hosts(host)), rules
-    organization = (ORGANIZATION, "o")
-    for policy, subject in (
-        (DOMAIN_VALIDATED, ()),
-        ("2.23.140.1.2.3", ()),
-        ("2.23.140.1.1", (organization,)),
-        (ORGANIZATION_VALIDATED, (organization,)),
-    ):
-        attribute = "domain_validated_attribute " if policy == DOMAIN_VALIDATED else ""
-        yield server(policies=policies(policy), subject=name((COUNTRY, "NL"), *subject, (UNIT, "u"))), attribute + "organizational_unit_present"
+    yield server(subject=name((COUNTRY, "NL"), (UNIT, "u"))), "domain_validated_attribute organizational_unit_present"
+    for policy in ATTRIBUTES:
+        yield validated(policy, more=[(UNIT, "u")]), "organizational_unit_present"
     first, second = ((COMMON_NAME, f"{letter}.example.com") for letter in "ab")
     of_both = hosts("a.example.com", "b.example.com")
-    for subject in (name(first, second), name(first, (COUNTRY, "NL"), first), in_one(first, second), in_one(first, second, (COUNTRY, "NL"))):
-        yield server(subject=subject, names=of_both), "common_name_present common_name_repeated"
+    for subject, order in ((name(first, second), ""), (name(first, (COUNTRY, "NL"), first), "attribute_order")):
+        yield server(subject=subject, names=of_both), f"common_name_present common_name_repeated {order}"
+    for subject in (in_one(first, second), in_one(first, second, (COUNTRY, "NL"))):
+        yield server(subject=subject, names=of_both), "common_name_present common_name_repeated rdn_of_several_attributes"
 
 
 def usage_rules():
@@ -261,7 +357,8 @@ def usage_rules():
     for purpose in (*named, ObjectIdentifier("1.3.6.1.4.1.11129.2.4.4")):
         yield server(purposes=key_purposes(SERVER_AUTH, purpose)), "extended_key_usage_forbidden"
         yield authority(purposes=key_purposes(SERVER_AUTH, purpose)), "ca_extended_key_usage_forbidden"
-        yield server(purposes=key_purposes(purpose)), ""
+        if purpose != OCSP_SIGNING:
+            yield server(purposes=key_purposes(purpose)), ""
     yield server(purposes=key_purposes(SERVER_AUTH, ObjectIdentifier("1.2.3.4"))), "extended_key_usage_other"
     yield server(marked=["purposes"]), "extended_key_usage_critical"
     yield server(usage=None), "key_usage_absent"
@@ -284,19 +381,23 @@ def policy_rules():
     yield server(policies=None), "certificate_policies_absent"
     yield server(marked=["policies"]), "certificate_policies_critical"
     yield server(policies=policies("1.2.3.4")), "reserved_policy_absent"
-    for oid in ("2.23.140.1.2.3", "2.23.140.1.1"):
-        yield server(policies=policies(oid)), ""
-    yield server(policies=policies("2.5.29.32.0", DOMAIN_VALIDATED)), "any_policy_present"
+    yield server(policies=policies(ANY_POLICY, DOMAIN_VALIDATED)), "any_policy_present"
     yield server(policies=policies(DOMAIN_VALIDATED, qualifiers=["http://cps"])), "policy_qualifiers_present"
     notice = x509.UserNotice(None, "x")
     yield server(policies=policies(DOMAIN_VALIDATED, qualifiers=[notice])), "policy_qualifiers_present policy_qualifier_other"
     yield server(subject=name((COUNTRY, "NL"), (LOCALITY, "x"))), "domain_validated_attribute"
-    yield validated(subject=name((COUNTRY, "NL"), (ORGANIZATION, "o"), (LOCALITY, "x"))), ""
-    yield validated(subject=name((COUNTRY, "NL"))), "organization_validated_without_organization"
-    yield validated(subject=name((ORGANIZATION, "o"))), "organization_validated_without_country"
+    yield validated(without=[ORGANIZATION]), "organization_validated_without_organization"
+    yield validated(without=[COUNTRY]), "organization_validated_without_country"
     yield server(accesses=None), "authority_info_access_absent"
     yield server(accesses=accesses((ObjectIdentifier("1.3.6.1.5.5.7.48.5"), "http://o"))), "access_method_other"
     yield server(accesses=accesses((OCSP, "https://o"))), "access_location_not_http"
+    of_issuer = accesses((CA_ISSUERS, "http://o.example.net/i"))
+    over_7, over_10 = "revocation_absent_over_7_days", "revocation_absent_over_7_days revocation_absent_over_10_days"
+    for days, lasts, rules in ((7, -SECOND, ""), (7, 0 * SECOND, over_7), (10, -SECOND, over_7), (10, 0 * SECOND, over_10)):
+        yield server(points=None, accesses=of_issuer, days=days, lasts=lasts), rules
+        yield server(points=None, accesses=None, days=days, lasts=lasts), f"authority_info_access_absent {rules}"
+    yield server(points=None), ""
+    yield server(accesses=of_issuer), ""
 
 
 def authority_rules():
@@ -309,9 +410,127 @@ def authority_rules():
     yield authority(subject=name((COMMON_NAME, "S"), (ORGANIZATION, "o"))), "ca_without_country"
     yield authority(policies=None), "subordinate_without_policies"
     yield authority(points=None), "subordinate_without_crl_points"
+    of_authority = (COMMON_NAME, "S"), (ORGANIZATION, "o")
+    for country, rules in (("nl", ""), ("XX", ""), ("QQ", "ca_country_unknown")):
+        yield authority(subject=name(*of_authority, (COUNTRY, country))), rules
+    place = (LOCALITY, "x"), (STATE, "y"), (NameOID.POSTAL_CODE, "1"), (STREET, "z")
+    for subject, rules in ((place, ""), ([(NameOID.ORGANIZATION_IDENTIFIER, "o")], "ca_attribute_other"), ([(SERIAL_NUMBER, "1")], "ca_attribute_other")):
+        yield authority(subject=name(*of_authority, (COUNTRY, "NL"), *subject)), rules
 
 
-GROUPS = clean_ones, field_rules, key_rules, validity_rules, host_rules, name_rules, usage_rules, policy_rules, authority_rules
+def subject_rules():
+    for policy in ATTRIBUTES:
+        yield validated(policy, without=[LOCALITY], more=[(STATE, "y")]), ""
+        yield validated(policy, more=[(STREET, "a"), (STREET, "b")]), ""
+    yield validated(without=[LOCALITY]), "organization_validated_without_place"
+    for oid in (SURNAME, GIVEN_NAME):
+        yield validated(more=[(oid, "a")]), "organization_validated_personal_name"
+        yield validated(INDIVIDUAL_VALIDATED, without=[oid]), "individual_validated_without_name"
+    yield validated(INDIVIDUAL_VALIDATED, without=[COUNTRY]), "individual_validated_without_country"
+    yield validated(INDIVIDUAL_VALIDATED, without=[LOCALITY]), "individual_validated_without_place"
+    types = {ORGANIZATION: "organization", COUNTRY: "country", LOCALITY: "place", CATEGORY: "category", SERIAL_NUMBER: "number", JURISDICTION: "jurisdiction"}
+    for oid, rule in types.items():
+        yield validated(EXTENDED_VALIDATION, without=[oid]), f"extended_validation_without_{rule}"
+    for country in "AD BY BZ FK FM IR IS MK ML PM PN TF TG XX ZW nl Nl".split():
+        yield server(subject=name((COUNTRY, country))), ""
+    for country in ("QQ", "AA", "UK", "XK", "ZZ", "D ", " D"):
+        yield server(subject=name((COUNTRY, country))), "country_unknown"
+        yield validated(EXTENDED_VALIDATION, without=[JURISDICTION], more=[(JURISDICTION, country)]), "country_unknown"
+    for text, rules in (("-", "attribute_without_text"), (" .-", "attribute_without_text"), (".a", ""), ("a-", "")):
+        yield validated(without=[LOCALITY], more=[(LOCALITY, text)]), rules
+    for oid in (COUNTRY, STATE, LOCALITY, NameOID.POSTAL_CODE, ORGANIZATION, SERIAL_NUMBER, CATEGORY, JURISDICTION):
+        yield validated(EXTENDED_VALIDATION, without=[oid], more=[(oid, "NL"), (oid, "DE")]), "attribute_repeated"
+    for oid in (SURNAME, GIVEN_NAME):
+        yield validated(INDIVIDUAL_VALIDATED, more=[(oid, "b")]), "attribute_repeated"
+    for oid in (STREET, NameOID.DOMAIN_COMPONENT):
+        yield validated(more=[(oid, "a"), (oid, "b")]), ""
+    yield validated(subject=in_one(*ATTRIBUTES[ORGANIZATION_VALIDATED])), "rdn_of_several_attributes"
+    of_types = [(oid, "NL") for oid in ORDER]
+    for at in range(len(ORDER) - 1):
+        swapped = [*of_types[:at], of_types[at + 1], of_types[at], *of_types[at + 2 :]]
+        for attributes, order in ((of_types, ""), (swapped, "attribute_order")):
+            rules = "organization_validated_personal_name organizational_unit_present common_name_present common_name_not_in_alt_name"
+            yield validated(subject=name(*attributes)), f"{rules} {order}"
+    first, second, third = ATTRIBUTES[ORGANIZATION_VALIDATED]
+    for attributes in ((first, third, second), (third, first, second), (second, (SERIAL_NUMBER, "1"), first, third), (first, (STREET, "a"), second, third)):
+        yield validated(subject=name(*attributes)), "attribute_order"
+    for attributes in (((SERIAL_NUMBER, "1"), first, second, third), (first, second, (CATEGORY, "a"), third), (first, second, second, third)):
+        yield validated(subject=name(*attributes)), "attribute_repeated" if attributes.count(second) > 1 else ""
+
+
+def root_rules():
+    for days, lasts, rules in (
+        (2922, -2 * SECOND, "root_validity_under_2922_days"),
+        (2922, -SECOND, ""),
+        (9132, -SECOND, ""),
+        (9132, 0 * SECOND, "root_validity_over_9132_days"),
+    ):
+        yield root(days=days, lasts=lasts), rules
+    yield root(purposes=key_purposes(SERVER_AUTH)), "root_extended_key_usage_present"
+    yield root(purposes=key_purposes(ExtendedKeyUsageOID.EMAIL_PROTECTION)), ""
+    # the keys differ: an authority's own certificate for its next key
+    yield root(purposes=key_purposes(SERVER_AUTH), issuer_key=x509.AuthorityKeyIdentifier(b"\1" * 20, None, None)), ""
+    yield root(purposes=key_purposes(SERVER_AUTH), key_id=None), "root_extended_key_usage_present"
+    yield root(policies=policies(ANY_POLICY)), "root_policies_present"
+    yield root(points=points(point())), "root_crl_points_present"
+    yield root(issuer_key=None), "root_without_authority_key_identifier"
+    yield root(constraints=x509.BasicConstraints(True, 0)), "root_path_len_present"
+    yield root(accesses=accesses((OCSP, "http://o.example.net"))), "root_extension_other"
+    yield root(names=hosts("a.example.com")), "root_extension_other"
+    yield root(timestamps=x509.UnrecognizedExtension(ObjectIdentifier("1.3.6.1.4.1.11129.2.4.2"), b"\4\2\0\0")), ""
+    subject = name((COMMON_NAME, "S"), (ORGANIZATION, "o"), (UNIT, "u"), (COUNTRY, "NL"))
+    yield root(subject=subject), "root_organizational_unit_present"
+    yield authority(subject=subject), "subordinate_organizational_unit_present"
+
+
+def subordinate_rules():
+    yield authority(purposes=None), "subordinate_without_extended_key_usage"
+    yield authority(marked=["purposes"]), "subordinate_extended_key_usage_critical"
+    yield authority(purposes=key_purposes(SERVER_AUTH, ObjectIdentifier("1.2.3.4"))), "subordinate_extended_key_usage_other"
+    yield authority(purposes=key_purposes(SERVER_AUTH, CLIENT_AUTH)), ""
+    yield authority(marked=["policies"]), "subordinate_policies_critical"
+    for oids, rules in (
+        (["1.2.3.4"], "subordinate_without_reserved_policy"),
+        (["1.2.3.4", EXTENDED_VALIDATION], ""),
+        ([ORGANIZATION_VALIDATED, INDIVIDUAL_VALIDATED], ""),
+        ([ANY_POLICY], ""),
+        ([ANY_POLICY, DOMAIN_VALIDATED], "subordinate_any_policy_among_others"),
+        (["1.2.3.4", ANY_POLICY], "subordinate_any_policy_among_others"),
+    ):
+        yield authority(policies=policies(*oids)), rules
+    yield authority(policies=policies(DOMAIN_VALIDATED, qualifiers=["http://cps"])), "subordinate_policy_qualifiers_present"
+    notice = x509.UserNotice(None, "x")
+    yield authority(policies=policies(DOMAIN_VALIDATED, qualifiers=[notice])), "subordinate_policy_qualifiers_present subordinate_policy_qualifier_other"
+    yield authority(accesses=None), "subordinate_without_authority_info_access"
+    yield authority(accesses=accesses((OCSP, "http://o"), (CA_ISSUERS, "http://o"))), ""
+    yield authority(accesses=accesses((ObjectIdentifier("1.3.6.1.5.5.7.48.5"), "http://o"))), "subordinate_access_method_other"
+    yield authority(accesses=accesses((OCSP, "http://o"), (OCSP, "https://o"))), "subordinate_access_location_not_http"
+
+
+def responder_rules():
+    yield responder(no_check=None), "ocsp_no_check_absent"
+    yield responder(marked=["no_check"]), "ocsp_no_check_critical"
+    yield responder(purposes=key_purposes(OCSP_SIGNING, CLIENT_AUTH)), "responder_purpose_other"
+    yield responder(marked=["purposes"]), ""
+    yield responder(usage=None), "responder_key_usage_absent"
+    yield responder(unmarked=["usage"]), "responder_key_usage_not_critical"
+    for bit in ("content_commitment", "key_agreement", "crl_sign"):
+        yield responder(usage=key_usage("digital_signature", bit)), "responder_key_usage_other"
+    yield responder(usage=key_usage("content_commitment")), "responder_key_usage_other"
+    no_authority = x509.BasicConstraints(False, None)
+    yield responder(constraints=no_authority), "responder_constraints_not_critical"
+    yield responder(constraints=no_authority, marked=["constraints"]), ""
+    yield responder(names=hosts("a.example.com")), "responder_alt_name_present"
+    yield responder(points=points(point())), "responder_crl_points_present"
+    yield responder(policies=policies(DOMAIN_VALIDATED)), "responder_policies_present"
+    yield responder(accesses=accesses((OCSP, "http://o.example.net"))), "responder_access_present"
+    yield responder(no_check=None, key_id=None, purposes=key_purposes(CLIENT_AUTH)), ""
+
+
+GROUPS = (
+    *(clean_ones, field_rules, key_rules, validity_rules, host_rules, name_rules, subject_rules, usage_rules, policy_rules),
+    *(authority_rules, root_rules, subordinate_rules, responder_rules),
+)
 
 
 def rules_of_page():
@@ -356,6 +575,15 @@ def seen_of():
     yield server(key_id=x509.SubjectKeyIdentifier(KEY_ID)), "subject_key_identifier_present", "tbsCertificate.extensions.subjectKeyIdentifier", f"0414{KEY_ID.hex()}"
     yield server(policies=policies("1.2.3.4")), "reserved_policy_absent", "tbsCertificate.extensions.certificatePolicies", "300730050603" + "2a0304"
     yield authority(points=None), "subordinate_without_crl_points", "tbsCertificate.extensions.cRLDistributionPoints", ""
+    yield server(names=hosts("a.example.com", "b.12", "c.d.3")), "dns_name_numeric", names, "b.12"
+    yield server(subject=name((COUNTRY, "QQ"))), "country_unknown", subject, "C=QQ"
+    yield server(points=None, accesses=accesses((CA_ISSUERS, "http://o")), days=8), "revocation_absent_over_7_days", "tbsCertificate.extensions", ""
+    yield root(issuer_key=None), "root_without_authority_key_identifier", "tbsCertificate.extensions.authorityKeyIdentifier", ""
+    yield root(constraints=x509.BasicConstraints(True, 0)), "root_path_len_present", "tbsCertificate.extensions.basicConstraints", "30060101ff020100"
+    yield root(names=hosts("a.example.com")), "root_extension_other", "tbsCertificate.extensions", ""
+    yield root(days=9132, lasts=0 * SECOND), "root_validity_over_9132_days", "tbsCertificate.validity", "2024-01-01T00:00:00Z/2049-01-01T00:00:00Z"
+    yield authority(marked=["purposes"]), "subordinate_extended_key_usage_critical", "tbsCertificate.extensions.extKeyUsage", "300a06082b06010505070301"
+    yield responder(marked=["no_check"]), "ocsp_no_check_critical", "tbsCertificate.extensions.ocspNoCheck", "0500"
 
 
 def seen_runs(page):

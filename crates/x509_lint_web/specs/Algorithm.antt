@@ -1,8 +1,8 @@
 -- Algorithms of signatures and keys (TLS BR 7.1.3), as the content octets of their OIDs, and their parameters.
-use Rattle.std.specs.Prelude.{◌&&◌, ◌||◌, ℕ, Bool, true, false, List, [], ◌∷◌, bytes_eq}
+use Rattle.std.specs.Prelude.{◌&&◌, ◌||◌, ◌++◌, ℕ, Bool, true, false, List, [], ◌∷◌, bytes_eq}
 use Rattle.x509_der.specs.declared.any.Any.{Any}
 use Rattle.x509_der.specs.declared.tag.Tag.{Tag}
-use Rattle.x509_der.specs.declared.tag.Tag.TheVariants.{Null, ObjectIdentifier}
+use Rattle.x509_der.specs.declared.tag.Tag.TheVariants.{Null, ObjectIdentifier, Sequence}
 use Rattle.x509_base.specs.declared.subject_public_key_info.SubjectPublicKeyInfo.{SubjectPublicKeyInfo}
 use Rattle.x509_lint.specs.Words.{is_empty}
 
@@ -54,6 +54,27 @@ is_null_tag other = false
 
 abbrev pub is_null : Any → Bool
 is_null a = is_null_tag a.tag && is_empty a.value
+
+-- the AlgorithmIdentifier of a hash function of SHA-2, 2.16.840.1.101.3.4.2.n, with NULL
+abbrev pub sha_2 : ℕ → List ℕ
+sha_2 n = 0x30 ∷ 0x0D ∷ 0x06 ∷ 0x09 ∷ 0x60 ∷ 0x86 ∷ 0x48 ∷ 0x01 ∷ 0x65 ∷ 0x03 ∷ 0x04 ∷ 0x02 ∷ n ∷ 0x05 ∷ 0x00 ∷ []
+
+-- the content octets of RSASSA-PSS-params (RFC 8017 A.2.3): that hash function, id-mgf1 with it, and a salt of so many octets
+abbrev pub pss_parameters : ℕ → ℕ → List ℕ
+pss_parameters n salt =
+    (0xA0 ∷ 0x0F ∷ []) ++ (sha_2 n ++ ((0xA1 ∷ 0x1C ∷ 0x30 ∷ 0x1A ∷ 0x06 ∷ 0x09 ∷ pkcs_1 8) ++ (sha_2 n ++ (0xA2 ∷ 0x03 ∷ 0x02 ∷ 0x01 ∷ salt ∷ []))))
+
+-- those of SHA-256, SHA-384 and SHA-512, of which each salt has as many octets as the digest (TLS BR 7.1.3.2.1)
+abbrev pub are_pss_octets : List ℕ → Bool
+are_pss_octets octets =
+    bytes_eq octets (pss_parameters 1 32) || (bytes_eq octets (pss_parameters 2 48) || bytes_eq octets (pss_parameters 3 64))
+
+abbrev pub is_sequence_tag : Tag → Bool
+is_sequence_tag Sequence = true
+is_sequence_tag other = false
+
+abbrev pub are_pss : Any → Bool
+are_pss a = is_sequence_tag a.tag && are_pss_octets a.value
 
 abbrev pub is_oid_tag : Tag → Bool
 is_oid_tag ObjectIdentifier = true

@@ -9,7 +9,7 @@ use Rattle.x509_ext.specs.declared.pkix.name.distribution_point_name.Distributio
 use Rattle.x509_lint.specs.Field.{is_v3}
 use Rattle.x509_lint.specs.Key.{is_self_issued}
 use Rattle.x509_lint.specs.Words.{extensions_of, has_critical, is_empty, passes}
-use Rattle.x509_lint_web.specs.Algorithm.{is_ecdsa, is_null, is_of_sha1, is_rsa_pkcs1, is_rsa_pss}
+use Rattle.x509_lint_web.specs.Algorithm.{are_pss, is_ecdsa, is_null, is_of_sha1, is_rsa_pkcs1, is_rsa_pss}
 use Rattle.x509_lint_web.specs.Words.{is_authority, is_http_name}
 use Rattle.x509_lint_web.specs.Sentence.{Sentence, from_day, must}
 use Rattle.x509_lint_web.specs.declared.rule.field.WebFieldRule.{WebFieldRule}
@@ -42,6 +42,7 @@ field_rules =
     ∷ rules.SignatureAlgorithmOther
     ∷ rules.RsaSignatureParametersNotNull
     ∷ rules.EcdsaSignatureParametersPresent
+    ∷ rules.RsaPssParametersOther
     ∷ rules.AuthorityCertIssuerPresent
     ∷ rules.CrlDistributionPointsCritical
     ∷ rules.CrlDistributionPointNotHttp
@@ -63,6 +64,9 @@ field_sentence rules.RsaSignatureParametersNotNull =
 field_sentence rules.EcdsaSignatureParametersPresent =
     must (codes "ecdsa_signature_parameters_present") (codes "7.1.3.2.2") (from_day 2020 8 20) (codes "signatureAlgorithm")
     (λ c v. is_ecdsa c.signature_algorithm.oid && is_some c.signature_algorithm.parameters)
+field_sentence rules.RsaPssParametersOther =
+    must (codes "rsa_pss_parameters_other") (codes "7.1.3.2.1") (from_day 2020 8 20) (codes "signatureAlgorithm")
+    (λ c v. is_rsa_pss c.signature_algorithm.oid && not (passes are_pss c.signature_algorithm.parameters))
 field_sentence rules.AuthorityCertIssuerPresent =
     must (codes "authority_cert_issuer_present") (codes "7.1.2.11.1") (from_day 2023 9 15) (codes "tbsCertificate.extensions.authorityKeyIdentifier")
     (λ c v. passes has_issuer v.authority_key_identifier)

@@ -1,11 +1,10 @@
--- DNS names and addresses of TLS servers (TLS BR 1.6.1, 7.1.2.7.12).
-use Rattle.std.specs.Prelude.{◌&&◌, ◌||◌, ◌==◌, ℕ, Bool, false, not, nat_le, nat_lt, length, take, List, [], ◌∷◌, codes, if◌then◌else◌}
+-- DNS names of TLS servers (TLS BR 1.6.1, 7.1.2.7.12).
+use Rattle.std.specs.Prelude.{◌&&◌, ◌||◌, ◌==◌, ◌-◌, ℕ, Bool, false, not, nat_le, nat_lt, length, take, drop, List, [], ◌∷◌, codes, if◌then◌else◌}
+use Rattle.std.specs.Char.{is_ascii_alphabetic, is_ascii_digit}
 use Rattle.std.specs.List.{list_all, list_any, slice_get}
 use Rattle.x509_host.specs.Host.{behind_wildcard, labels_of}
 use Rattle.x509_lint.specs.Words.{passes}
 use Rattle.x509_lint_web.specs.Words.{is_same}
-
--- ---- DNS names
 
 abbrev pub has_octet : ℕ → List ℕ → Bool
 has_octet octet text = list_any (λ o. o == octet) text
@@ -48,45 +47,45 @@ last_label_of label (octet ∷ octets) = if octet == 46 then last_label_of octet
 abbrev pub last_label : List ℕ → List ℕ
 last_label text = last_label_of text text
 
--- the last label is one that the public DNS never has (RFC 6761 6, RFC 6762 3)
-abbrev pub is_internal : List ℕ → Bool
-is_internal text =
-    is_same (last_label text) (codes "example") || (is_same (last_label text) (codes "invalid") || (is_same (last_label text) (codes "local")
-    || (is_same (last_label text) (codes "localhost") || is_same (last_label text) (codes "test"))))
+-- the last label is one that the public DNS never has (RFC 6761 6, RFC 6762 3, RFC 9476 2; ICANN keeps `internal` for private use)
+abbrev pub is_internal_label : List ℕ → Bool
+is_internal_label label =
+    is_same label (codes "alt") || (is_same label (codes "example") || (is_same label (codes "internal") || (is_same label (codes "invalid")
+    || (is_same label (codes "local") || (is_same label (codes "localhost") || is_same label (codes "test"))))))
 
--- ---- addresses (the registries of RFC 6890)
+abbrev pub is_internal : List ℕ → Bool
+is_internal text = is_internal_label (last_label text)
+
+abbrev pub are_digits : List ℕ → Bool
+are_digits octets = list_all is_ascii_digit octets
+
+-- the last label is of digits, as that of an IPv4 address is
+abbrev pub is_numeric : List ℕ → Bool
+is_numeric text = not (length (last_label text) == 0) && are_digits (last_label text)
+
+-- the text ends in the other, without regard to ASCII case
+abbrev pub ends_in : List ℕ → List ℕ → Bool
+ends_in text end = is_same (drop (length text - length end) text) end
+
+-- a name of the reverse mapping (RFC 1035 3.5, RFC 3596 2.5)
+abbrev pub is_reverse : List ℕ → Bool
+is_reverse text = ends_in text (codes ".in-addr.arpa") || ends_in text (codes ".ip6.arpa")
+
+-- a letter or one of the digits 2 to 7 (RFC 4648 6)
+abbrev pub is_base32 : ℕ → Bool
+is_base32 octet = is_ascii_alphabetic octet || (nat_le 50 octet && nat_le octet 55)
+
+abbrev pub are_base32 : List ℕ → Bool
+are_base32 octets = list_all is_base32 octets
 
 -- the octet at the place is between the two, both included
 abbrev pub is_between : List ℕ → ℕ → ℕ → ℕ → Bool
 is_between octets at low high = passes (λ octet. nat_le low octet && nat_le octet high) (slice_get octets at)
 
--- 0/8, 10/8, 127/8, 240/4
-abbrev pub is_reserved_by_one : List ℕ → Bool
-is_reserved_by_one a = is_between a 0 0 0 || (is_between a 0 10 10 || (is_between a 0 127 127 || is_between a 0 240 255))
+-- 35 octets in base 32, the last of which is the version, 3
+abbrev pub is_onion_label : List ℕ → Bool
+is_onion_label label = (length label == 56) && (are_base32 label && (is_between label 55 68 68 || is_between label 55 100 100))
 
--- the first octet is this, and the second between the two
-abbrev pub begins_with : List ℕ → ℕ → ℕ → ℕ → Bool
-begins_with a first low high = is_between a 0 first first && is_between a 1 low high
-
--- 100.64/10, 169.254/16, 172.16/12, 192.168/16, 198.18/15
-abbrev pub is_reserved_by_two : List ℕ → Bool
-is_reserved_by_two a =
-    begins_with a 100 64 127 || (begins_with a 169 254 254 || (begins_with a 172 16 31 || (begins_with a 192 168 168 || begins_with a 198 18 19)))
-
-abbrev pub is_reserved_v4 : List ℕ → Bool
-is_reserved_v4 a = is_reserved_by_one a || is_reserved_by_two a
-
--- all octets are 0 but for the last, which is 0 or 1: ::, ::1
-abbrev pub is_near_zero : List ℕ → Bool
-is_near_zero a = list_all (λ octet. octet == 0) (take 15 a) && is_between a 15 0 1
-
--- 2001:db8::/32
-abbrev pub is_documentation : List ℕ → Bool
-is_documentation a = begins_with a 0x20 0x01 0x01 && (is_between a 2 0x0D 0x0D && is_between a 3 0xB8 0xB8)
-
--- these, fc00::/7, fe80::/10
-abbrev pub is_reserved_v6 : List ℕ → Bool
-is_reserved_v6 a = is_near_zero a || (is_between a 0 0xFC 0xFD || (begins_with a 0xFE 0x80 0xBF || is_documentation a))
-
-abbrev pub is_reserved_address : List ℕ → Bool
-is_reserved_address a = ((length a == 4) && is_reserved_v4 a) || ((length a == 16) && is_reserved_v6 a)
+-- a name ending in onion, and what stands in front of that isn't the address of an onion service
+abbrev pub is_other_onion : List ℕ → Bool
+is_other_onion text = is_same (last_label text) (codes "onion") && not (is_onion_label (last_label (take (length text - 6) text)))

@@ -3,6 +3,7 @@ use Rattle.std.specs.Prelude.{◌&&◌, ◌||◌, ◌==◌, ◌-◌, ◌%◌, �
 use Rattle.std.specs.List.{slice_get}
 use Rattle.x509_lint.specs.Words.{passes}
 use Rattle.x509_lint_web.specs.Algorithm.{is_ec, is_null, is_rsa, names_curve}
+use Rattle.x509_lint_web.specs.Factor.{has_small_factor}
 use Rattle.x509_lint_web.specs.Words.{key_of}
 use Rattle.x509_prim.specs.Integer.{without_zeros}
 use Rattle.x509_lint_web.specs.Sentence.{Sentence, from_day, must, should}
@@ -57,6 +58,7 @@ key_rules =
     ∷ rules.RsaModulusShort
     ∷ rules.RsaModulusUneven
     ∷ rules.RsaModulusEven
+    ∷ rules.RsaModulusSmallFactor
     ∷ rules.RsaExponentInvalid
     ∷ rules.RsaExponentOutside ∷ []
 
@@ -79,6 +81,9 @@ key_sentence rules.RsaModulusUneven =
 key_sentence rules.RsaModulusEven =
     should (codes "rsa_modulus_even") (codes "6.1.6") (from_day 2013 1 1) (codes "tbsCertificate.subjectPublicKeyInfo")
     (λ c v. is_rsa (key_of c) && has_modulus is_even v)
+key_sentence rules.RsaModulusSmallFactor =
+    should (codes "rsa_modulus_small_factor") (codes "6.1.6") (from_day 2013 1 1) (codes "tbsCertificate.subjectPublicKeyInfo")
+    (λ c v. is_rsa (key_of c) && has_modulus has_small_factor v)
 key_sentence rules.RsaExponentInvalid =
     must (codes "rsa_exponent_invalid") (codes "6.1.6") (from_day 2013 1 1) (codes "tbsCertificate.subjectPublicKeyInfo")
     (λ c v. is_rsa (key_of c) && has_exponent is_no_exponent v)

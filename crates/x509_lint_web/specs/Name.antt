@@ -1,17 +1,16 @@
 -- The rules on the SAN and the subject of certificates of TLS servers (TLS BR 7.1.2.7, 7.1.2.7.12, 7.1.4.3).
-use Rattle.std.specs.Prelude.{◌&&◌, ◌+◌, ℕ, Bool, true, false, not, nat_lt, length, List, [], ◌∷◌, filter, codes, None}
+use Rattle.std.specs.Prelude.{◌&&◌, ℕ, Bool, true, false, not, nat_lt, List, [], ◌∷◌, codes, None}
 use Rattle.std.specs.List.{list_any}
 use Rattle.x509_ext.specs.Identifiers.{id_ce}
 use Rattle.x509_ext.specs.declared.pkix.name.general_name.GeneralName.{GeneralName}
 use Rattle.x509_ext.specs.declared.pkix.name.general_name.GeneralName.TheVariants.{DnsName, IpAddress}
 use Rattle.x509_lint.specs.Text.{id_at}
 use Rattle.x509_lint.specs.Words.{extensions_of, has, has_critical, is_empty, passes}
-use Rattle.x509_lint_web.specs.CommonName.{is_common_name}
-use Rattle.x509_lint_web.specs.Host.{has_underscore, has_reserved_label, has_other_wildcard, has_one_label, is_internal, is_reserved_address}
-use Rattle.x509_lint_web.specs.Words.{has_attribute}
+use Rattle.x509_lint_web.specs.Address.{is_reserved_address}
+use Rattle.x509_lint_web.specs.Host.{has_underscore, has_reserved_label, has_other_wildcard, has_one_label, is_internal, is_numeric, is_other_onion, is_reverse}
+use Rattle.x509_lint_web.specs.Words.{count_of, has_attribute}
 use Rattle.x509_lint_web.specs.declared.names.NameFault.{NameFault}
-use Rattle.x509_lint_web.specs.declared.names.NameFault.TheVariants.{OtherName, Underscore, ReservedLabel, Wildcard, OneLabel, Internal, Reserved}
-use Rattle.x509_name.specs.declared.attr.type_and_value.AttributeTypeAndValue.{AttributeTypeAndValue}
+use Rattle.x509_lint_web.specs.declared.names.NameFault.TheVariants.{OtherName, Underscore, ReservedLabel, Wildcard, OneLabel, Internal, Numeric, Reverse, OtherOnion, Reserved}
 use Rattle.x509_lint_web.specs.Sentence.{Sentence, from_day, must, should}
 use Rattle.x509_lint_web.specs.declared.rule.name.WebNameRule.{WebNameRule}
 use Rattle.x509_lint_web.specs.declared.rule.name.WebNameRule.TheVariants as rules
@@ -30,6 +29,9 @@ is_faulty_host ReservedLabel text = has_reserved_label text
 is_faulty_host Wildcard text = has_other_wildcard text
 is_faulty_host OneLabel text = has_one_label text
 is_faulty_host Internal text = is_internal text
+is_faulty_host Numeric text = is_numeric text
+is_faulty_host Reverse text = is_reverse text
+is_faulty_host OtherOnion text = is_other_onion text
 is_faulty_host other text = false
 
 abbrev pub is_faulty_address : NameFault → List ℕ → Bool
@@ -46,13 +48,6 @@ has_fault fault (DnsName text) = is_faulty_host fault text
 has_fault fault (IpAddress octets) = is_faulty_address fault octets
 has_fault fault name = is_other fault
 
--- ---- commonName
-
--- how many attributes of the name are commonNames
-abbrev pub common_name_count : List (List AttributeTypeAndValue) → ℕ
-common_name_count [] = 0
-common_name_count (rdn ∷ rdns) = length (filter is_common_name rdn) + common_name_count rdns
-
 -- ---- the rules
 
 abbrev pub name_rules : List WebNameRule
@@ -66,6 +61,9 @@ name_rules =
     ∷ rules.DnsNameWildcard
     ∷ rules.DnsNameOneLabel
     ∷ rules.DnsNameInternal
+    ∷ rules.DnsNameNumeric
+    ∷ rules.DnsNameReverse
+    ∷ rules.DnsNameOnionOther
     ∷ rules.AddressReserved
     ∷ rules.CommonNamePresent
     ∷ rules.CommonNameNotInAltName
@@ -101,6 +99,15 @@ name_sentence rules.DnsNameOneLabel =
 name_sentence rules.DnsNameInternal =
     must (codes "dns_name_internal") (codes "7.1.2.7.12") (from_day 2015 11 1) (codes "tbsCertificate.extensions.subjectAltName")
     (λ c v. passes (λ s. list_any (has_fault Internal) s.0) v.subject_alt_name)
+name_sentence rules.DnsNameNumeric =
+    must (codes "dns_name_numeric") (codes "7.1.2.7.12") (from_day 2015 11 1) (codes "tbsCertificate.extensions.subjectAltName")
+    (λ c v. passes (λ s. list_any (has_fault Numeric) s.0) v.subject_alt_name)
+name_sentence rules.DnsNameReverse =
+    should (codes "dns_name_reverse") (codes "7.1.2.7.12") (from_day 2026 3 15) (codes "tbsCertificate.extensions.subjectAltName")
+    (λ c v. passes (λ s. list_any (has_fault Reverse) s.0) v.subject_alt_name)
+name_sentence rules.DnsNameOnionOther =
+    must (codes "dns_name_onion_other") (codes "7.1.2.7.12") (from_day 2023 9 15) (codes "tbsCertificate.extensions.subjectAltName")
+    (λ c v. passes (λ s. list_any (has_fault OtherOnion) s.0) v.subject_alt_name)
 name_sentence rules.AddressReserved =
     must (codes "address_reserved") (codes "7.1.2.7.12") (from_day 2015 11 1) (codes "tbsCertificate.extensions.subjectAltName")
     (λ c v. passes (λ s. list_any (has_fault Reserved) s.0) v.subject_alt_name)
@@ -118,4 +125,4 @@ name_sentence rules.OrganizationalUnitPresent =
     (λ c v. has_attribute (id_at 11) c.tbs_certificate.subject)
 name_sentence rules.CommonNameRepeated =
     must (codes "common_name_repeated") (codes "7.1.4.3") (from_day 2021 8 25) (codes "tbsCertificate.subject")
-    (λ c v. nat_lt 1 (common_name_count c.tbs_certificate.subject))
+    (λ c v. nat_lt 1 (count_of (id_at 3) c.tbs_certificate.subject))

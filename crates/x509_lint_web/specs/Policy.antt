@@ -1,4 +1,4 @@
--- The rules on certificate policies and authority information access of certificates of TLS servers (TLS BR 7.1.2.7.2, 7.1.2.7.4, 7.1.2.7.7, 7.1.2.7.9).
+-- The rules on certificate policies and authority information access of certificates of TLS servers (TLS BR 7.1.2.7, 7.1.2.11.2).
 use Rattle.std.specs.Prelude.{◌&&◌, ◌||◌, ℕ, Bool, not, List, [], ◌∷◌, bytes_eq, codes, is_some, None}
 use Rattle.std.specs.List.{list_any}
 use Rattle.x509_ext.specs.Identifiers.{id_ce, id_pkix}
@@ -7,10 +7,12 @@ use Rattle.x509_ext.specs.declared.pkix.policy_information.PolicyInformation.{Po
 use Rattle.x509_lint.specs.Place.{ca_issuers}
 use Rattle.x509_lint.specs.Policy.{any_policy}
 use Rattle.x509_lint.specs.Text.{id_at}
-use Rattle.x509_lint.specs.Words.{extensions_of, has, has_critical, passes}
+use Rattle.x509_lint.specs.Words.{Certificate, extensions_of, has, has_critical, passes}
 use Rattle.x509_lint_web.specs.Words.{has_attribute, has_policy, is_http_name}
 use Rattle.x509_name.specs.declared.attr.type_and_value.AttributeTypeAndValue.{AttributeTypeAndValue}
 use Rattle.x509_lint_web.specs.Sentence.{Sentence, from_day, must, should}
+use Rattle.x509_lint_web.specs.Validity.{is_longer}
+use Rattle.x509_lint_web.specs.declared.values.WebValues.{WebValues}
 use Rattle.x509_lint_web.specs.declared.rule.policy.WebPolicyRule.{WebPolicyRule}
 use Rattle.x509_lint_web.specs.declared.rule.policy.WebPolicyRule.TheVariants as rules
 
@@ -51,12 +53,21 @@ has_other_attribute rdns = list_any (λ rdn. list_any is_other_attribute rdn) rd
 
 -- ---- access (TLS BR 7.1.2.7.7)
 
+-- id-ad-ocsp (RFC 5280 4.2.2.1)
+abbrev pub is_ocsp : AccessDescription → Bool
+is_ocsp d = bytes_eq d.access_method (id_pkix 48 1)
+
 -- neither id-ad-ocsp nor id-ad-caIssuers
 abbrev pub has_other_method : AccessDescription → Bool
 has_other_method d = not (bytes_eq d.access_method (id_pkix 48 1)) && not (bytes_eq d.access_method ca_issuers)
 
 abbrev pub has_other_location : AccessDescription → Bool
 has_other_location d = not (is_http_name d.access_location)
+
+-- no word on where it is told whether the certificate is revoked: no CRLDistributionPoints, and no access for OCSP, or none that isn't read
+abbrev pub is_without_revocation : Certificate → WebValues → Bool
+is_without_revocation c v =
+    not (has (id_ce 31) (extensions_of c)) && (not (has (id_pkix 1 1) (extensions_of c)) || passes (λ a. not (list_any is_ocsp a.0)) v.authority_info_access)
 
 -- ---- the rules
 
@@ -73,7 +84,9 @@ policy_rules =
     ∷ rules.OrganizationValidatedWithoutCountry
     ∷ rules.AuthorityInfoAccessAbsent
     ∷ rules.AccessMethodOther
-    ∷ rules.AccessLocationNotHttp ∷ []
+    ∷ rules.AccessLocationNotHttp
+    ∷ rules.RevocationAbsentOver10Days
+    ∷ rules.RevocationAbsentOver7Days ∷ []
 
 abbrev pub policy_sentence : WebPolicyRule → Sentence
 policy_sentence rules.CertificatePoliciesAbsent =
@@ -112,3 +125,9 @@ policy_sentence rules.AccessMethodOther =
 policy_sentence rules.AccessLocationNotHttp =
     must (codes "access_location_not_http") (codes "7.1.2.7.7") (from_day 2023 9 15) (codes "tbsCertificate.extensions.authorityInfoAccess")
     (λ c v. passes (λ a. list_any has_other_location a.0) v.authority_info_access)
+policy_sentence rules.RevocationAbsentOver10Days =
+    must (codes "revocation_absent_over_10_days") (codes "7.1.2.11.2") (from_day 2024 3 15) (codes "tbsCertificate.extensions")
+    (λ c v. is_longer 10 c && is_without_revocation c v)
+policy_sentence rules.RevocationAbsentOver7Days =
+    must (codes "revocation_absent_over_7_days") (codes "7.1.2.11.2") (from_day 2026 3 15) (codes "tbsCertificate.extensions")
+    (λ c v. is_longer 7 c && is_without_revocation c v)

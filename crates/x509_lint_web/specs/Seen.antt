@@ -9,6 +9,7 @@ use Rattle.x509_ext.specs.Identifiers.{id_ce, id_pkix}
 use Rattle.x509_ext.specs.declared.pkix.alternative_names.SubjectAltName.{SubjectAltName}
 use Rattle.x509_ext.specs.declared.pkix.name.general_name.GeneralName.{GeneralName}
 use Rattle.x509_ext.specs.declared.pkix.name.general_name.GeneralName.TheVariants.{Rfc822Name, DnsName, UniformResourceIdentifier, IpAddress}
+use Rattle.x509_lint.specs.OtherTypes.{ocsp_no_check}
 use Rattle.x509_lint.specs.Seen.{shortened, value_seen}
 use Rattle.x509_lint.specs.Words.{Certificate, extensions_of}
 use Rattle.x509_lint_web.specs.Name.{has_fault}
@@ -27,10 +28,16 @@ use Rattle.x509_lint_web.specs.declared.rule.name.WebNameRule.{WebNameRule}
 use Rattle.x509_lint_web.specs.declared.rule.name.WebNameRule.TheVariants as name
 use Rattle.x509_lint_web.specs.declared.rule.policy.WebPolicyRule.{WebPolicyRule}
 use Rattle.x509_lint_web.specs.declared.rule.policy.WebPolicyRule.TheVariants as policy
+use Rattle.x509_lint_web.specs.declared.rule.responder.WebResponderRule.{WebResponderRule}
+use Rattle.x509_lint_web.specs.declared.rule.responder.WebResponderRule.TheVariants as responder
+use Rattle.x509_lint_web.specs.declared.rule.root.WebRootRule.{WebRootRule}
+use Rattle.x509_lint_web.specs.declared.rule.root.WebRootRule.TheVariants as root
+use Rattle.x509_lint_web.specs.declared.rule.subordinate.WebSubordinateRule.{WebSubordinateRule}
+use Rattle.x509_lint_web.specs.declared.rule.subordinate.WebSubordinateRule.TheVariants as subordinate
 use Rattle.x509_lint_web.specs.declared.rule.usage.WebUsageRule.{WebUsageRule}
 use Rattle.x509_lint_web.specs.declared.rule.usage.WebUsageRule.TheVariants as usage
 use Rattle.x509_lint_web.specs.declared.seen.Part.{Part}
-use Rattle.x509_lint_web.specs.declared.seen.Part.TheVariants.{Version, Signature, KeyAlgorithm, KeyParameters, Key, Validity, Subject, Name, Extension}
+use Rattle.x509_lint_web.specs.declared.seen.Part.TheVariants.{Version, Signature, KeyAlgorithm, KeyParameters, Key, Validity, Subject, Name, Extension, Extensions}
 use Rattle.x509_lint_web.specs.declared.values.WebValues.{WebValues}
 use Rattle.x509_name.specs.NameText.{name_text}
 
@@ -57,6 +64,9 @@ name_part name.DnsNameReservedLabel = Name faults.ReservedLabel
 name_part name.DnsNameWildcard = Name faults.Wildcard
 name_part name.DnsNameOneLabel = Name faults.OneLabel
 name_part name.DnsNameInternal = Name faults.Internal
+name_part name.DnsNameNumeric = Name faults.Numeric
+name_part name.DnsNameReverse = Name faults.Reverse
+name_part name.DnsNameOnionOther = Name faults.OtherOnion
 name_part name.AddressReserved = Name faults.Reserved
 name_part name.CommonNamePresent = Subject
 name_part name.CommonNameNotInAltName = Subject
@@ -81,25 +91,64 @@ policy_part policy.OrganizationValidatedWithoutCountry = Subject
 policy_part policy.AuthorityInfoAccessAbsent = Extension (id_pkix 1 1)
 policy_part policy.AccessMethodOther = Extension (id_pkix 1 1)
 policy_part policy.AccessLocationNotHttp = Extension (id_pkix 1 1)
+policy_part policy.RevocationAbsentOver10Days = Extensions
+policy_part policy.RevocationAbsentOver7Days = Extensions
 policy_part other = Extension (id_ce 32)
 
 abbrev pub authority_part : WebAuthorityRule → Part
 authority_part authority.CaWithoutCommonName = Subject
 authority_part authority.CaWithoutOrganization = Subject
 authority_part authority.CaWithoutCountry = Subject
+authority_part authority.CaCountryUnknown = Subject
+authority_part authority.CaAttributeOther = Subject
 authority_part authority.CaExtendedKeyUsageForbidden = Extension (id_ce 37)
 authority_part authority.SubordinateWithoutPolicies = Extension (id_ce 32)
 authority_part authority.SubordinateWithoutCrlPoints = Extension (id_ce 31)
 authority_part other = Extension (id_ce 15)
+
+abbrev pub root_part : WebRootRule → Part
+root_part root.RootExtendedKeyUsagePresent = Extension (id_ce 37)
+root_part root.RootPoliciesPresent = Extension (id_ce 32)
+root_part root.RootCrlPointsPresent = Extension (id_ce 31)
+root_part root.RootWithoutAuthorityKeyIdentifier = Extension (id_ce 35)
+root_part root.RootPathLenPresent = Extension (id_ce 19)
+root_part root.RootExtensionOther = Extensions
+root_part root.RootOrganizationalUnitPresent = Subject
+root_part other = Validity
+
+abbrev pub subordinate_part : WebSubordinateRule → Part
+subordinate_part subordinate.SubordinateWithoutExtendedKeyUsage = Extension (id_ce 37)
+subordinate_part subordinate.SubordinateExtendedKeyUsageCritical = Extension (id_ce 37)
+subordinate_part subordinate.SubordinateExtendedKeyUsageOther = Extension (id_ce 37)
+subordinate_part subordinate.SubordinateWithoutAuthorityInfoAccess = Extension (id_pkix 1 1)
+subordinate_part subordinate.SubordinateAccessMethodOther = Extension (id_pkix 1 1)
+subordinate_part subordinate.SubordinateAccessLocationNotHttp = Extension (id_pkix 1 1)
+subordinate_part subordinate.SubordinateOrganizationalUnitPresent = Subject
+subordinate_part other = Extension (id_ce 32)
+
+abbrev pub responder_part : WebResponderRule → Part
+responder_part responder.OcspNoCheckAbsent = Extension ocsp_no_check
+responder_part responder.OcspNoCheckCritical = Extension ocsp_no_check
+responder_part responder.ResponderPurposeOther = Extension (id_ce 37)
+responder_part responder.ResponderConstraintsNotCritical = Extension (id_ce 19)
+responder_part responder.ResponderAltNamePresent = Extension (id_ce 17)
+responder_part responder.ResponderCrlPointsPresent = Extension (id_ce 31)
+responder_part responder.ResponderPoliciesPresent = Extension (id_ce 32)
+responder_part responder.ResponderAccessPresent = Extension (id_pkix 1 1)
+responder_part other = Extension (id_ce 15)
 
 abbrev pub part_of : WebRule → Part
 part_of (rules.Field rule) = field_part rule
 part_of (rules.Key rule) = key_part rule
 part_of (rules.Validity rule) = Validity
 part_of (rules.Name rule) = name_part rule
+part_of (rules.Subject rule) = Subject
 part_of (rules.Usage rule) = usage_part rule
 part_of (rules.Policy rule) = policy_part rule
 part_of (rules.Authority rule) = authority_part rule
+part_of (rules.Root rule) = root_part rule
+part_of (rules.Subordinate rule) = subordinate_part rule
+part_of (rules.Responder rule) = responder_part rule
 
 -- ---- what is seen of a part
 
@@ -146,6 +195,7 @@ part_seen c v Validity = validity_seen c
 part_seen c v Subject = subject_seen c
 part_seen c v (Name fault) = faulty_seen fault v.subject_alt_name
 part_seen c v (Extension oid) = value_seen oid (extensions_of c)
+part_seen c v Extensions = []
 
 -- what is seen where the certificate, of which these are the values, breaks the rule
 abbrev pub web_seen : Certificate → WebValues → WebRule → List ℕ

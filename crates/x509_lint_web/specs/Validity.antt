@@ -1,5 +1,5 @@
 -- The rules on the validity of certificates of TLS servers (TLS BR 6.3.2).
-use Rattle.std.specs.Prelude.{◌-◌, ◌*◌, ℕ, Bool, nat_le, List, [], ◌∷◌, codes}
+use Rattle.std.specs.Prelude.{◌-◌, ◌*◌, ℕ, Bool, nat_le, nat_lt, List, [], ◌∷◌, codes}
 use Rattle.x509_base.specs.CivilTime.{unix_seconds}
 use Rattle.x509_base.specs.Time.{date_time_of}
 use Rattle.x509_lint.specs.Words.{Certificate}
@@ -11,6 +11,10 @@ use Rattle.x509_lint_web.specs.declared.rule.validity.WebValidityRule.TheVariant
 abbrev pub is_longer : ℕ → Certificate → Bool
 is_longer days c =
     nat_le (days * 86400) (unix_seconds (date_time_of c.tbs_certificate.validity.not_after) - unix_seconds (date_time_of c.tbs_certificate.validity.not_before))
+
+abbrev pub is_shorter : ℕ → Certificate → Bool
+is_shorter days c =
+    nat_lt (unix_seconds (date_time_of c.tbs_certificate.validity.not_after) - unix_seconds (date_time_of c.tbs_certificate.validity.not_before)) (days * 86400 - 1)
 
 -- ---- the rules
 

@@ -126,7 +126,7 @@ fn is_copy_among(alloc: Global, text: &[u8], mut names: &[GeneralName]) -> Resul
     Ok(false)
 }
 
-pub(crate) fn is_common_name(attribute: &AttributeTypeAndValue) -> bool
+fn is_common_name(attribute: &AttributeTypeAndValue) -> bool
     ensures { result ≡ grammar.is_common_name attribute.now }
 {
     attribute.oid == COMMON_NAME

@@ -1,7 +1,6 @@
-//! What is asked of DNS names and addresses.
+//! What is asked of DNS names.
 
-ghost use Rattle.std.specs.List.{list_all};
-ghost use Rattle.std.specs.Prelude.{◌≡◌, ◌==◌, ◌≤◌, length};
+ghost use Rattle.std.specs.Prelude.{◌≡◌};
 ghost use Rattle.x509_lint_web.specs.Host as host;
 ghost use Rattle.x509_lint_web.specs.Words as words;
 
@@ -98,14 +97,52 @@ fn last_label(text: &[u8]) -> &[u8]
     label
 }
 
+fn is_internal_label(label: &[u8]) -> bool
+    ensures { result ≡ host.is_internal_label label.now }
+{
+    is_same(label, b"alt")
+        || (is_same(label, b"example")
+            || (is_same(label, b"internal")
+                || (is_same(label, b"invalid")
+                    || (is_same(label, b"local")
+                        || (is_same(label, b"localhost") || is_same(label, b"test"))))))
+}
+
 pub(crate) fn is_internal(text: &[u8]) -> bool
     ensures { result ≡ host.is_internal text.now }
 {
+    is_internal_label(last_label(text))
+}
+
+fn are_digits(octets: &[u8]) -> bool
+    ensures { result ≡ host.are_digits octets.now }
+{
+    octets.iter().all(|octet| octet.is_ascii_digit())
+}
+
+pub(crate) fn is_numeric(text: &[u8]) -> bool
+    ensures { result ≡ host.is_numeric text.now }
+{
     let label = last_label(text);
-    is_same(label, b"example")
-        || (is_same(label, b"invalid")
-            || (is_same(label, b"local")
-                || (is_same(label, b"localhost") || is_same(label, b"test"))))
+    !label.is_empty() && are_digits(label)
+}
+
+fn ends_in(text: &[u8], end: &[u8]) -> bool
+    ensures { result ≡ host.ends_in text.now end.now }
+{
+    is_same(&text[text.len().saturating_sub(end.len())..], end)
+}
+
+pub(crate) fn is_reverse(text: &[u8]) -> bool
+    ensures { result ≡ host.is_reverse text.now }
+{
+    ends_in(text, b".in-addr.arpa") || ends_in(text, b".ip6.arpa")
+}
+
+fn are_base32(octets: &[u8]) -> bool
+    ensures { result ≡ host.are_base32 octets.now }
+{
+    octets.iter().all(|octet| octet.is_ascii_alphabetic() || (b'2' <= *octet && *octet <= b'7'))
 }
 
 fn is_between(octets: &[u8], at: usize, low: u8, high: u8) -> bool
@@ -114,65 +151,17 @@ fn is_between(octets: &[u8], at: usize, low: u8, high: u8) -> bool
     passes!(octets.get(at), octet => low <= *octet && *octet <= high)
 }
 
-fn is_reserved_v4(a: &[u8]) -> bool
-    ensures { result ≡ host.is_reserved_v4 a.now }
+fn is_onion_label(label: &[u8]) -> bool
+    ensures { result ≡ host.is_onion_label label.now }
 {
-    is_reserved_by_one(a) || is_reserved_by_two(a)
+    label.len() == 56
+        && (are_base32(label)
+            && (is_between(label, 55, b'D', b'D') || is_between(label, 55, b'd', b'd')))
 }
 
-fn is_reserved_by_one(a: &[u8]) -> bool
-    ensures { result ≡ host.is_reserved_by_one a.now }
+pub(crate) fn is_other_onion(text: &[u8]) -> bool
+    ensures { result ≡ host.is_other_onion text.now }
 {
-    is_between(a, 0, 0, 0)
-        || (is_between(a, 0, 10, 10) || (is_between(a, 0, 127, 127) || is_between(a, 0, 240, 255)))
-}
-
-fn begins_with(a: &[u8], first: u8, low: u8, high: u8) -> bool
-    ensures { result ≡ host.begins_with a.now first low high }
-{
-    is_between(a, 0, first, first) && is_between(a, 1, low, high)
-}
-
-fn is_reserved_by_two(a: &[u8]) -> bool
-    ensures { result ≡ host.is_reserved_by_two a.now }
-{
-    begins_with(a, 100, 64, 127)
-        || (begins_with(a, 169, 254, 254)
-            || (begins_with(a, 172, 16, 31)
-                || (begins_with(a, 192, 168, 168) || begins_with(a, 198, 18, 19))))
-}
-
-fn are_zeros(octets: &[u8]) -> bool
-    ensures { result ≡ list_all (λ octet. octet == 0) octets.now }
-{
-    octets.iter().all(|octet| *octet == 0)
-}
-
-fn is_near_zero(a: &[u8]) -> bool
-    requires { 15 ≤ length a.now }
-    ensures { result ≡ host.is_near_zero a.now }
-{
-    are_zeros(&a[..15]) && is_between(a, 15, 0, 1)
-}
-
-fn is_documentation(a: &[u8]) -> bool
-    ensures { result ≡ host.is_documentation a.now }
-{
-    begins_with(a, 0x20, 0x01, 0x01)
-        && (is_between(a, 2, 0x0D, 0x0D) && is_between(a, 3, 0xB8, 0xB8))
-}
-
-fn is_reserved_v6(a: &[u8]) -> bool
-    requires { 15 ≤ length a.now }
-    ensures { result ≡ host.is_reserved_v6 a.now }
-{
-    is_near_zero(a)
-        || (is_between(a, 0, 0xFC, 0xFD)
-            || (begins_with(a, 0xFE, 0x80, 0xBF) || is_documentation(a)))
-}
-
-pub(crate) fn is_reserved_address(a: &[u8]) -> bool
-    ensures { result ≡ host.is_reserved_address a.now }
-{
-    (a.len() == 4 && is_reserved_v4(a)) || (a.len() == 16 && is_reserved_v6(a))
+    is_same(last_label(text), b"onion")
+        && !is_onion_label(last_label(&text[..text.len().saturating_sub(6)]))
 }

@@ -4,20 +4,27 @@
 //! Words of our own are explained in `docs/MAP.md`.
 #![tactic(auto)]
 
+mod addresses;
 mod algorithms;
 mod common_names;
+mod countries;
 mod day;
 mod entry;
+mod factors;
 mod hosts;
 mod lint;
 mod names;
 mod numbers;
+mod orders;
 mod places;
 mod policies;
 mod report;
+mod responders;
+mod roots;
 pub mod rule;
 mod scope;
 mod seen;
+mod subjects;
 mod times;
 mod usages;
 mod values;

@@ -3,15 +3,14 @@
 ghost use Rattle.std.specs.List.{list_any};
 ghost use Rattle.std.specs.Prelude.{◌≡◌, bytes_eq, filter, length, nat_lt};
 ghost use Rattle.x509_lint.specs.Words.{is_empty, passes};
-ghost use Rattle.x509_lint_web.specs.CommonName.{is_common_name};
 ghost use Rattle.x509_lint_web.specs.Name as grammar;
 ghost use Rattle.x509_lint_web.specs.Policy as policy;
 ghost use Rattle.x509_lint_web.specs.Words as words;
 
-use crate::common_names::is_common_name;
+use crate::addresses::is_reserved_address;
 use crate::hosts::{
     has_one_label, has_other_wildcard, has_reserved_label, has_underscore, is_http, is_internal,
-    is_reserved_address,
+    is_numeric, is_other_onion, is_reverse,
 };
 use x509_der::ObjectIdentifier;
 use x509_ext::pkix::SubjectAltName;
@@ -42,6 +41,15 @@ pub(crate) enum NameFault {
     /// It is a dNSName whose last label the public DNS never has.
     Internal,
 
+    /// It is a dNSName whose last label is of digits.
+    Numeric,
+
+    /// It is a dNSName of the reverse mapping.
+    Reverse,
+
+    /// It is a dNSName that ends in onion, and isn't one of an onion service of version 3.
+    OtherOnion,
+
     /// It is a reserved iPAddress.
     Reserved,
 }
@@ -71,6 +79,9 @@ fn is_faulty_host(fault: NameFault, text: &[u8]) -> bool
         NameFault::Wildcard => has_other_wildcard(text),
         NameFault::OneLabel => has_one_label(text),
         NameFault::Internal => is_internal(text),
+        NameFault::Numeric => is_numeric(text),
+        NameFault::Reverse => is_reverse(text),
+        NameFault::OtherOnion => is_other_onion(text),
         NameFault::OtherName | NameFault::Reserved => false,
     }
 }
@@ -162,22 +173,22 @@ pub(crate) fn has_other_attribute(name: &Name) -> bool
     rdns.as_slice().iter().any(has_other_in)
 }
 
-/// How many attributes of the RDN are commonNames.
-fn count_in(rdn: &RelativeDistinguishedName) -> usize
-    ensures { result ≡ length (filter is_common_name rdn.now) }
+/// How many attributes of the RDN have the type.
+fn count_in(oid: ObjectIdentifier, rdn: &RelativeDistinguishedName) -> usize
+    ensures { result ≡ length (filter (words.is_of_type oid) rdn.now) }
 {
     rdn.as_slice()
         .iter()
-        .filter(|attribute| is_common_name(attribute))
+        .filter(|attribute| attribute.oid == oid)
         .count()
 }
 
-fn has_common_names_in(mut rdns: &[RelativeDistinguishedName]) -> bool
-    ensures { result ≡ nat_lt 1 (grammar.common_name_count rdns.entry.now) }
+fn is_repeated_in(oid: ObjectIdentifier, mut rdns: &[RelativeDistinguishedName]) -> bool
+    ensures { result ≡ nat_lt 1 (words.count_of oid rdns.entry.now) }
 {
     let mut passed = 0;
     while let [first, rest @ ..] = rdns {
-        let count = count_in(first);
+        let count = count_in(oid, first);
         if count > 1 || passed + count > 1 {
             return true;
         }
@@ -187,12 +198,12 @@ fn has_common_names_in(mut rdns: &[RelativeDistinguishedName]) -> bool
     false
 }
 
-/// Whether the name has two commonNames or more.
-pub(crate) fn has_common_names(name: &Name) -> bool
-    ensures { result ≡ nat_lt 1 (grammar.common_name_count name.now) }
+/// Whether the name has two attributes of the type or more.
+pub(crate) fn is_repeated(oid: ObjectIdentifier, name: &Name) -> bool
+    ensures { result ≡ nat_lt 1 (words.count_of oid name.now) }
 {
     let rdns: &RdnSequence = name.as_ref();
-    has_common_names_in(rdns.as_slice())
+    is_repeated_in(oid, rdns.as_slice())
 }
 
 /// Whether the name is an HTTP URI.

@@ -3,8 +3,10 @@
 ghost use Rattle.std.specs.Option.{option_copied};
 ghost use Rattle.std.specs.Prelude.{◌≡◌, ◌==◌, ◌%◌, nat_lt};
 ghost use Rattle.x509_lint.specs.Words.{passes};
+ghost use Rattle.x509_lint_web.specs.Factor.{has_small_factor};
 ghost use Rattle.x509_lint_web.specs.Key as grammar;
 
+use crate::factors::has_small_factor;
 use x509_der::SequenceOf;
 use x509_lint::passes;
 use x509_prim::Uint;
@@ -88,6 +90,19 @@ pub(crate) fn has_even_modulus(numbers: &Option<SequenceOf<Uint>>) -> bool
     };
     match numbers.as_slice() {
         [modulus, _exponent] => is_even(modulus.as_bytes()),
+        _ => false,
+    }
+}
+
+/// Whether a prime from 3 to 751 divides the modulus.
+pub(crate) fn has_divided_modulus(numbers: &Option<SequenceOf<Uint>>) -> bool
+    ensures { result ≡ passes (grammar.first_passes has_small_factor) numbers.now }
+{
+    let Some(numbers) = numbers else {
+        return false;
+    };
+    match numbers.as_slice() {
+        [modulus, _exponent] => has_small_factor(modulus.as_bytes()),
         _ => false,
     }
 }

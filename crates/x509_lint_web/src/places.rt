@@ -1,17 +1,23 @@
 //! What is asked of places where CRLs, certificates and responders are found, and of the AKI.
 
 ghost use Rattle.std.specs.List.{list_all, list_any};
-ghost use Rattle.std.specs.Prelude.{◌≡◌};
+ghost use Rattle.std.specs.Prelude.{◌≡◌, not};
 ghost use Rattle.x509_lint.specs.Words.{passes};
 ghost use Rattle.x509_lint_web.specs.Field as field;
 ghost use Rattle.x509_lint_web.specs.Policy as policy;
 ghost use Rattle.x509_lint_web.specs.Words.{is_http_name};
 
 use crate::names::is_http_name;
+use crate::values::WebValues;
+use x509_base::Raw;
+use x509_cert::certificate::CertificateInner;
 use x509_der::{ObjectIdentifier, oid};
 use x509_ext::pkix::crl::dp::DistributionPoint;
 use x509_ext::pkix::name::{DistributionPointName, GeneralName};
-use x509_ext::pkix::{AccessDescription, AuthorityInfoAccessSyntax, AuthorityKeyIdentifier};
+use x509_ext::pkix::{
+    AccessDescription, AuthorityInfoAccessSyntax, AuthorityKeyIdentifier, CrlDistributionPoints,
+};
+use x509_lint::extensions::{extensions_of, has};
 use x509_lint::passes;
 
 /// id-ad-ocsp, 1.3.6.1.5.5.7.48.1 (RFC 5280 4.2.2.1).
@@ -104,4 +110,33 @@ pub(crate) fn have_other_location(descriptions: &Option<AuthorityInfoAccessSynta
     ensures { result ≡ passes (λ a. list_any policy.has_other_location a.0) descriptions.now }
 {
     passes!(descriptions, descriptions => is_other_location_among(descriptions.0.as_slice()))
+}
+
+fn is_ocsp(description: &AccessDescription) -> bool
+    ensures { result ≡ policy.is_ocsp description.now }
+{
+    description.access_method == OCSP
+}
+
+fn is_ocsp_among(descriptions: &[AccessDescription]) -> bool
+    ensures { result ≡ list_any policy.is_ocsp descriptions.now }
+{
+    descriptions.iter().any(is_ocsp)
+}
+
+/// Whether the descriptions are read, and none is for OCSP.
+fn are_without_ocsp(descriptions: &Option<AuthorityInfoAccessSyntax>) -> bool
+    ensures { result ≡ passes (λ a. not (list_any policy.is_ocsp a.0)) descriptions.now }
+{
+    passes!(descriptions, descriptions => !is_ocsp_among(descriptions.0.as_slice()))
+}
+
+/// Whether the certificate says no place where it is told whether it is revoked.
+pub(crate) fn is_without_revocation(certificate: &CertificateInner<Raw>, values: &WebValues) -> bool
+    ensures { result ≡ policy.is_without_revocation certificate.now values.now }
+{
+    let extensions = extensions_of(certificate);
+    !has::<CrlDistributionPoints>(extensions)
+        && (!has::<AuthorityInfoAccessSyntax>(extensions)
+            || are_without_ocsp(&values.authority_info_access))
 }

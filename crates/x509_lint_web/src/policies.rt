@@ -21,10 +21,10 @@ pub(crate) const DOMAIN_VALIDATED: ObjectIdentifier = oid!(0x67, 0x81, 0x0C, 0x0
 pub(crate) const ORGANIZATION_VALIDATED: ObjectIdentifier = oid!(0x67, 0x81, 0x0C, 0x01, 0x02, 2);
 
 /// 2.23.140.1.2.3: the individual is.
-const INDIVIDUAL_VALIDATED: ObjectIdentifier = oid!(0x67, 0x81, 0x0C, 0x01, 0x02, 3);
+pub(crate) const INDIVIDUAL_VALIDATED: ObjectIdentifier = oid!(0x67, 0x81, 0x0C, 0x01, 0x02, 3);
 
 /// 2.23.140.1.1: extended validation.
-const EXTENDED_VALIDATION: ObjectIdentifier = oid!(0x67, 0x81, 0x0C, 0x01, 0x01);
+pub(crate) const EXTENDED_VALIDATION: ObjectIdentifier = oid!(0x67, 0x81, 0x0C, 0x01, 0x01);
 
 /// id-qt-cps, 1.3.6.1.5.5.7.2.1 (RFC 5280 4.2.1.4).
 const CPS: ObjectIdentifier = oid!(0x2B, 0x06, 0x01, 0x05, 0x05, 0x07, 2, 1);

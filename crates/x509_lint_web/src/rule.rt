@@ -8,7 +8,7 @@ ghost use Rattle.x509_lint_web.specs.Sentence.{IsTold, is_in_force};
 
 use crate::day::Day;
 use crate::entry::WebEntry;
-use crate::scope::{is_above_servers, is_server};
+use crate::scope::{is_above_servers, is_responder, is_root, is_server, is_subordinate};
 use crate::seen::Part;
 use crate::values::WebValues;
 use std::fmt;
@@ -21,6 +21,10 @@ mod field;
 mod key;
 mod name;
 mod policy;
+mod responder;
+mod root;
+mod subject;
+mod subordinate;
 mod usage;
 mod validity;
 
@@ -29,6 +33,10 @@ pub use field::WebFieldRule;
 pub use key::WebKeyRule;
 pub use name::WebNameRule;
 pub use policy::WebPolicyRule;
+pub use responder::WebResponderRule;
+pub use root::WebRootRule;
+pub use subject::WebSubjectRule;
+pub use subordinate::WebSubordinateRule;
 pub use usage::WebUsageRule;
 pub use validity::WebValidityRule;
 
@@ -48,6 +56,9 @@ pub enum WebRule {
     /// On the SAN and the subject of a certificate of a TLS server.
     Name(WebNameRule),
 
+    /// On the attributes of the subject of a certificate of a TLS server.
+    Subject(WebSubjectRule),
+
     /// On what a certificate of a TLS server is used for.
     Usage(WebUsageRule),
 
@@ -56,15 +67,25 @@ pub enum WebRule {
 
     /// On a certificate of an authority that may stand above TLS servers.
     Authority(WebAuthorityRule),
+
+    /// On a certificate of a root.
+    Root(WebRootRule),
+
+    /// On a certificate of an authority that may stand above TLS servers and has another issuer.
+    Subordinate(WebSubordinateRule),
+
+    /// On a certificate of an OCSP responder.
+    Responder(WebResponderRule),
 }
 
 /// All rules, in their order.
-pub(crate) const WEB_RULES: [WebRule; 74] = [
+pub(crate) const WEB_RULES: [WebRule; 131] = [
     WebRule::Field(WebFieldRule::VersionNotV3),
     WebRule::Field(WebFieldRule::SignatureOfSha1),
     WebRule::Field(WebFieldRule::SignatureAlgorithmOther),
     WebRule::Field(WebFieldRule::RsaSignatureParametersNotNull),
     WebRule::Field(WebFieldRule::EcdsaSignatureParametersPresent),
+    WebRule::Field(WebFieldRule::RsaPssParametersOther),
     WebRule::Field(WebFieldRule::AuthorityCertIssuerPresent),
     WebRule::Field(WebFieldRule::CrlDistributionPointsCritical),
     WebRule::Field(WebFieldRule::CrlDistributionPointNotHttp),
@@ -75,6 +96,7 @@ pub(crate) const WEB_RULES: [WebRule; 74] = [
     WebRule::Key(WebKeyRule::RsaModulusShort),
     WebRule::Key(WebKeyRule::RsaModulusUneven),
     WebRule::Key(WebKeyRule::RsaModulusEven),
+    WebRule::Key(WebKeyRule::RsaModulusSmallFactor),
     WebRule::Key(WebKeyRule::RsaExponentInvalid),
     WebRule::Key(WebKeyRule::RsaExponentOutside),
     WebRule::Validity(WebValidityRule::ValidityOver825Days),
@@ -95,12 +117,31 @@ pub(crate) const WEB_RULES: [WebRule; 74] = [
     WebRule::Name(WebNameRule::DnsNameWildcard),
     WebRule::Name(WebNameRule::DnsNameOneLabel),
     WebRule::Name(WebNameRule::DnsNameInternal),
+    WebRule::Name(WebNameRule::DnsNameNumeric),
+    WebRule::Name(WebNameRule::DnsNameReverse),
+    WebRule::Name(WebNameRule::DnsNameOnionOther),
     WebRule::Name(WebNameRule::AddressReserved),
     WebRule::Name(WebNameRule::CommonNamePresent),
     WebRule::Name(WebNameRule::CommonNameNotInAltName),
     WebRule::Name(WebNameRule::CommonNameNotAsInAltName),
     WebRule::Name(WebNameRule::OrganizationalUnitPresent),
     WebRule::Name(WebNameRule::CommonNameRepeated),
+    WebRule::Subject(WebSubjectRule::OrganizationValidatedWithoutPlace),
+    WebRule::Subject(WebSubjectRule::OrganizationValidatedPersonalName),
+    WebRule::Subject(WebSubjectRule::IndividualValidatedWithoutName),
+    WebRule::Subject(WebSubjectRule::IndividualValidatedWithoutCountry),
+    WebRule::Subject(WebSubjectRule::IndividualValidatedWithoutPlace),
+    WebRule::Subject(WebSubjectRule::ExtendedValidationWithoutOrganization),
+    WebRule::Subject(WebSubjectRule::ExtendedValidationWithoutCountry),
+    WebRule::Subject(WebSubjectRule::ExtendedValidationWithoutPlace),
+    WebRule::Subject(WebSubjectRule::ExtendedValidationWithoutCategory),
+    WebRule::Subject(WebSubjectRule::ExtendedValidationWithoutNumber),
+    WebRule::Subject(WebSubjectRule::ExtendedValidationWithoutJurisdiction),
+    WebRule::Subject(WebSubjectRule::CountryUnknown),
+    WebRule::Subject(WebSubjectRule::AttributeWithoutText),
+    WebRule::Subject(WebSubjectRule::AttributeRepeated),
+    WebRule::Subject(WebSubjectRule::RdnOfSeveralAttributes),
+    WebRule::Subject(WebSubjectRule::AttributeOrder),
     WebRule::Usage(WebUsageRule::ExtendedKeyUsageAbsent),
     WebRule::Usage(WebUsageRule::ExtendedKeyUsageForbidden),
     WebRule::Usage(WebUsageRule::ExtendedKeyUsageOther),
@@ -125,6 +166,8 @@ pub(crate) const WEB_RULES: [WebRule; 74] = [
     WebRule::Policy(WebPolicyRule::AuthorityInfoAccessAbsent),
     WebRule::Policy(WebPolicyRule::AccessMethodOther),
     WebRule::Policy(WebPolicyRule::AccessLocationNotHttp),
+    WebRule::Policy(WebPolicyRule::RevocationAbsentOver10Days),
+    WebRule::Policy(WebPolicyRule::RevocationAbsentOver7Days),
     WebRule::Authority(WebAuthorityRule::CaKeyUsageNotCritical),
     WebRule::Authority(WebAuthorityRule::CaWithoutCrlSign),
     WebRule::Authority(WebAuthorityRule::CaKeyUsageOther),
@@ -134,6 +177,40 @@ pub(crate) const WEB_RULES: [WebRule; 74] = [
     WebRule::Authority(WebAuthorityRule::CaExtendedKeyUsageForbidden),
     WebRule::Authority(WebAuthorityRule::SubordinateWithoutPolicies),
     WebRule::Authority(WebAuthorityRule::SubordinateWithoutCrlPoints),
+    WebRule::Authority(WebAuthorityRule::CaCountryUnknown),
+    WebRule::Authority(WebAuthorityRule::CaAttributeOther),
+    WebRule::Root(WebRootRule::RootValidityUnder2922Days),
+    WebRule::Root(WebRootRule::RootValidityOver9132Days),
+    WebRule::Root(WebRootRule::RootExtendedKeyUsagePresent),
+    WebRule::Root(WebRootRule::RootPoliciesPresent),
+    WebRule::Root(WebRootRule::RootCrlPointsPresent),
+    WebRule::Root(WebRootRule::RootWithoutAuthorityKeyIdentifier),
+    WebRule::Root(WebRootRule::RootPathLenPresent),
+    WebRule::Root(WebRootRule::RootExtensionOther),
+    WebRule::Root(WebRootRule::RootOrganizationalUnitPresent),
+    WebRule::Subordinate(WebSubordinateRule::SubordinateWithoutExtendedKeyUsage),
+    WebRule::Subordinate(WebSubordinateRule::SubordinateExtendedKeyUsageCritical),
+    WebRule::Subordinate(WebSubordinateRule::SubordinateExtendedKeyUsageOther),
+    WebRule::Subordinate(WebSubordinateRule::SubordinatePoliciesCritical),
+    WebRule::Subordinate(WebSubordinateRule::SubordinateWithoutReservedPolicy),
+    WebRule::Subordinate(WebSubordinateRule::SubordinateAnyPolicyAmongOthers),
+    WebRule::Subordinate(WebSubordinateRule::SubordinatePolicyQualifiersPresent),
+    WebRule::Subordinate(WebSubordinateRule::SubordinatePolicyQualifierOther),
+    WebRule::Subordinate(WebSubordinateRule::SubordinateWithoutAuthorityInfoAccess),
+    WebRule::Subordinate(WebSubordinateRule::SubordinateAccessMethodOther),
+    WebRule::Subordinate(WebSubordinateRule::SubordinateAccessLocationNotHttp),
+    WebRule::Subordinate(WebSubordinateRule::SubordinateOrganizationalUnitPresent),
+    WebRule::Responder(WebResponderRule::OcspNoCheckAbsent),
+    WebRule::Responder(WebResponderRule::OcspNoCheckCritical),
+    WebRule::Responder(WebResponderRule::ResponderPurposeOther),
+    WebRule::Responder(WebResponderRule::ResponderKeyUsageAbsent),
+    WebRule::Responder(WebResponderRule::ResponderKeyUsageNotCritical),
+    WebRule::Responder(WebResponderRule::ResponderKeyUsageOther),
+    WebRule::Responder(WebResponderRule::ResponderConstraintsNotCritical),
+    WebRule::Responder(WebResponderRule::ResponderAltNamePresent),
+    WebRule::Responder(WebResponderRule::ResponderCrlPointsPresent),
+    WebRule::Responder(WebResponderRule::ResponderPoliciesPresent),
+    WebRule::Responder(WebResponderRule::ResponderAccessPresent),
 ];
 
 impl WebRule {
@@ -146,9 +223,13 @@ impl WebRule {
             WebRule::Key(rule) => rule.entry(),
             WebRule::Validity(rule) => rule.entry(),
             WebRule::Name(rule) => rule.entry(),
+            WebRule::Subject(rule) => rule.entry(),
             WebRule::Usage(rule) => rule.entry(),
             WebRule::Policy(rule) => rule.entry(),
             WebRule::Authority(rule) => rule.entry(),
+            WebRule::Root(rule) => rule.entry(),
+            WebRule::Subordinate(rule) => rule.entry(),
+            WebRule::Responder(rule) => rule.entry(),
         }
     }
 
@@ -206,9 +287,13 @@ impl WebRule {
             WebRule::Key(rule) => rule.part(),
             WebRule::Validity(_) => Part::Validity,
             WebRule::Name(rule) => rule.part(),
+            WebRule::Subject(_) => Part::Subject,
             WebRule::Usage(rule) => rule.part(),
             WebRule::Policy(rule) => rule.part(),
             WebRule::Authority(rule) => rule.part(),
+            WebRule::Root(rule) => rule.part(),
+            WebRule::Subordinate(rule) => rule.part(),
+            WebRule::Responder(rule) => rule.part(),
         }
     }
 
@@ -223,11 +308,19 @@ impl WebRule {
                 && rule.is_broken(certificate, values),
             WebRule::Name(rule) => is_server(certificate, values)
                 && rule.is_broken(certificate, values),
+            WebRule::Subject(rule) => is_server(certificate, values)
+                && rule.is_broken(certificate, values),
             WebRule::Usage(rule) => is_server(certificate, values)
                 && rule.is_broken(certificate, values),
             WebRule::Policy(rule) => is_server(certificate, values)
                 && rule.is_broken(certificate, values),
             WebRule::Authority(rule) => is_above_servers(certificate, values)
+                && rule.is_broken(certificate, values),
+            WebRule::Root(rule) => is_root(certificate, values)
+                && rule.is_broken(certificate, values),
+            WebRule::Subordinate(rule) => is_subordinate(certificate, values)
+                && rule.is_broken(certificate, values),
+            WebRule::Responder(rule) => is_responder(certificate, values)
                 && rule.is_broken(certificate, values),
         }
     }

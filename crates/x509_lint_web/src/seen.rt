@@ -43,6 +43,9 @@ pub(crate) enum Part {
 
     /// The extension of this OID.
     Extension(ObjectIdentifier),
+
+    /// The list of extensions, of which nothing more is told.
+    Extensions,
 }
 
 fn text_of(alloc: Global, text: &str) -> Result<String, AllocError>
@@ -137,7 +140,7 @@ pub(crate) fn part_seen(
 {
     let key = certificate.tbs_certificate().subject_public_key_info();
     match part {
-        Part::Version => Ok(String::new(alloc)),
+        Part::Version | Part::Extensions => Ok(String::new(alloc)),
         Part::Signature => oid_seen(alloc, certificate.signature_algorithm().oid),
         Part::KeyAlgorithm => oid_seen(alloc, key.algorithm.oid),
         Part::KeyParameters => parameters_seen(alloc, &key.algorithm.parameters),

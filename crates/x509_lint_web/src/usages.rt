@@ -5,7 +5,7 @@ ghost use Rattle.std.specs.Prelude.{◌≡◌};
 ghost use Rattle.x509_lint.specs.Words.{passes};
 ghost use Rattle.x509_lint_web.specs.Usage as grammar;
 
-use crate::scope::SERVER_AUTH;
+use crate::scope::{OCSP_SIGNING, SERVER_AUTH};
 use x509_der::{ObjectIdentifier, oid};
 use x509_ext::pkix::{ExtendedKeyUsage, KeyUsage};
 use x509_lint::passes;
@@ -21,9 +21,6 @@ const EMAIL_PROTECTION: ObjectIdentifier = oid!(0x2B, 0x06, 0x01, 0x05, 0x05, 0x
 
 /// id-kp-timeStamping, 1.3.6.1.5.5.7.3.8.
 const TIME_STAMPING: ObjectIdentifier = oid!(0x2B, 0x06, 0x01, 0x05, 0x05, 0x07, 3, 8);
-
-/// id-kp-OCSPSigning, 1.3.6.1.5.5.7.3.9.
-const OCSP_SIGNING: ObjectIdentifier = oid!(0x2B, 0x06, 0x01, 0x05, 0x05, 0x07, 3, 9);
 
 /// anyExtendedKeyUsage, 2.5.29.37.0.
 const ANY_EXTENDED_KEY_USAGE: ObjectIdentifier = oid!(0x55, 0x1D, 37, 0);
@@ -79,4 +76,11 @@ pub(crate) fn has_bit_not_of_ec(usage: &KeyUsage) -> bool
     ensures { result ≡ grammar.is_not_of_ec usage.now }
 {
     is_not_of_servers(usage) || (usage.key_encipherment() || usage.data_encipherment())
+}
+
+/// Whether keyCertSign or cRLSign is set.
+pub(crate) fn signs_as_authority(usage: &KeyUsage) -> bool
+    ensures { result ≡ grammar.signs_as_authority usage.now }
+{
+    usage.key_cert_sign() || usage.crl_sign()
 }

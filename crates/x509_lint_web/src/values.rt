@@ -13,7 +13,7 @@ use x509_der::{Decode, Error, ErrorKind, SequenceOf};
 use x509_ext::Extension;
 use x509_ext::pkix::{
     AuthorityInfoAccessSyntax, AuthorityKeyIdentifier, CertificatePolicies, CrlDistributionPoints,
-    ExtendedKeyUsage, KeyUsage, SubjectAltName,
+    ExtendedKeyUsage, KeyUsage, SubjectAltName, SubjectKeyIdentifier,
 };
 use x509_lint::AnyBasicConstraints;
 use x509_lint::extensions::{extensions_of, payload};
@@ -30,6 +30,7 @@ pub(crate) struct WebValues {
     pub(crate) certificate_policies: Option<CertificatePolicies>,
     pub(crate) crl_distribution_points: Option<CrlDistributionPoints>,
     pub(crate) authority_info_access: Option<AuthorityInfoAccessSyntax>,
+    pub(crate) subject_key_identifier: Option<SubjectKeyIdentifier>,
 
     /// The numbers of the key, where its bits are a SEQUENCE OF INTEGER.
     pub(crate) rsa_numbers: Option<SequenceOf<Uint>>,
@@ -52,6 +53,7 @@ impl Drop for WebValues {
             certificate_policies: _,
             crl_distribution_points: _,
             authority_info_access: _,
+            subject_key_identifier: _,
             rsa_numbers: _,
             has_stray_name: _,
             has_rewritten_name: _,
@@ -100,6 +102,7 @@ fn values_of(
         certificate_policies: payload(alloc, extensions)?,
         crl_distribution_points: payload(alloc, extensions)?,
         authority_info_access: payload(alloc, extensions)?,
+        subject_key_identifier: payload(alloc, extensions)?,
         rsa_numbers: spelled(alloc, key.subject_public_key.raw_bytes())?,
         has_stray_name,
         has_rewritten_name,

@@ -9,6 +9,7 @@ use crate::entry::{WebEntry, entries};
 use crate::names::has_attribute;
 use crate::scope::is_self_issued;
 use crate::seen::Part;
+use crate::subjects::{has_country_unknown, has_not_of_authorities};
 use crate::usages::{has_bit_not_of_ec, has_forbidden_purpose};
 use crate::values::WebValues;
 use x509_base::Raw;
@@ -50,10 +51,19 @@ pub enum WebAuthorityRule {
 
     /// There is no CRLDistributionPoints, and the issuer isn't the subject (TLS BR 7.1.2.11.2, error).
     SubordinateWithoutCrlPoints,
+
+    /// The subject has a countryName or a jurisdictionCountryName that is neither an alpha-2 code of ISO 3166-1 nor XX, in any
+    /// case (TLS BR 7.1.2.10.2, error, from 2012-07-01).
+    CaCountryUnknown,
+
+    /// The subject has an attribute other than commonName, countryName, localityName, stateOrProvinceName, streetAddress,
+    /// organizationName and postalCode, and than organizationalUnitName, which has rules of its own (TLS BR 7.1.2.10.2,
+    /// warning, from 2023-09-15).
+    CaAttributeOther,
 }
 
 /// How the rules are told, in the order of their variants.
-static ENTRIES: [WebEntry; 9] = entries! {
+static ENTRIES: [WebEntry; 11] = entries! {
     CaKeyUsageNotCritical => must("ca_key_usage_not_critical", "7.1.2.10.7", None, "tbsCertificate.extensions.keyUsage"),
     CaWithoutCrlSign => must("ca_without_crl_sign", "7.1.2.10.7", None, "tbsCertificate.extensions.keyUsage"),
     CaKeyUsageOther => must("ca_key_usage_other", "7.1.2.10.7", from_day(2023, 9, 15), "tbsCertificate.extensions.keyUsage"),
@@ -64,6 +74,8 @@ static ENTRIES: [WebEntry; 9] = entries! {
         must("ca_extended_key_usage_forbidden", "7.1.2.10.6", from_day(2023, 9, 15), "tbsCertificate.extensions.extKeyUsage"),
     SubordinateWithoutPolicies => must("subordinate_without_policies", "7.1.2.10.5", None, "tbsCertificate.extensions.certificatePolicies"),
     SubordinateWithoutCrlPoints => must("subordinate_without_crl_points", "7.1.2.11.2", None, "tbsCertificate.extensions.cRLDistributionPoints"),
+    CaCountryUnknown => must("ca_country_unknown", "7.1.2.10.2", from_day(2012, 7, 1), "tbsCertificate.subject"),
+    CaAttributeOther => should("ca_attribute_other", "7.1.2.10.2", from_day(2023, 9, 15), "tbsCertificate.subject"),
 };
 
 impl WebAuthorityRule {
@@ -81,7 +93,9 @@ impl WebAuthorityRule {
         match self {
             WebAuthorityRule::CaWithoutCommonName
             | WebAuthorityRule::CaWithoutOrganization
-            | WebAuthorityRule::CaWithoutCountry => Part::Subject,
+            | WebAuthorityRule::CaWithoutCountry
+            | WebAuthorityRule::CaCountryUnknown
+            | WebAuthorityRule::CaAttributeOther => Part::Subject,
             WebAuthorityRule::CaExtendedKeyUsageForbidden => Part::Extension(ExtendedKeyUsage::OID),
             WebAuthorityRule::SubordinateWithoutPolicies => Part::Extension(
                 CertificatePolicies::OID,
@@ -115,6 +129,8 @@ impl WebAuthorityRule {
                 && !has::<CertificatePolicies>(extensions),
             WebAuthorityRule::SubordinateWithoutCrlPoints => !is_self_issued(certificate)
                 && !has::<CrlDistributionPoints>(extensions),
+            WebAuthorityRule::CaCountryUnknown => has_country_unknown(subject),
+            WebAuthorityRule::CaAttributeOther => has_not_of_authorities(subject),
         }
     }
 }

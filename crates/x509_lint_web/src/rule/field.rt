@@ -6,7 +6,7 @@ ghost use Rattle.x509_lint_web.specs.Field as grammar;
 ghost use Rattle.x509_lint_web.specs.Seen as seen;
 ghost use Rattle.x509_lint_web.specs.Sentence.{IsTold};
 
-use crate::algorithms::{are_null, is_ecdsa, is_of_sha1, is_rsa_pkcs1, is_rsa_pss};
+use crate::algorithms::{are_null, are_pss, is_ecdsa, is_of_sha1, is_rsa_pkcs1, is_rsa_pss};
 use crate::entry::{WebEntry, entries};
 use crate::places::{has_issuer, is_partial_among, is_without_http_among};
 use crate::scope::{is_authority, is_self_issued};
@@ -41,6 +41,10 @@ pub enum WebFieldRule {
     /// The signature is one of ECDSA, and has parameters (TLS BR 7.1.3.2.2, error, from 2020-08-20).
     EcdsaSignatureParametersPresent,
 
+    /// The signature is one of RSASSA-PSS, and its parameters aren't, octet for octet, those of SHA-256, SHA-384 or SHA-512 for
+    /// the digest and for MGF1, and of a salt as long as the digest (TLS BR 7.1.3.2.1, error, from 2020-08-20).
+    RsaPssParametersOther,
+
     /// The AKI has an authorityCertIssuer or an authorityCertSerialNumber (TLS BR 7.1.2.11.1, error, from 2023-09-15).
     AuthorityCertIssuerPresent,
 
@@ -55,12 +59,13 @@ pub enum WebFieldRule {
 }
 
 /// How the rules are told, in the order of their variants.
-static ENTRIES: [WebEntry; 9] = entries! {
+static ENTRIES: [WebEntry; 10] = entries! {
     VersionNotV3 => must("version_not_v3", "7.1.1", None, "tbsCertificate.version"),
     SignatureOfSha1 => must("signature_of_sha1", "7.1.3.2", from_day(2016, 1, 1), "signatureAlgorithm"),
     SignatureAlgorithmOther => must("signature_algorithm_other", "7.1.3.2", from_day(2020, 8, 20), "signatureAlgorithm"),
     RsaSignatureParametersNotNull => must("rsa_signature_parameters_not_null", "7.1.3.2.1", from_day(2020, 8, 20), "signatureAlgorithm"),
     EcdsaSignatureParametersPresent => must("ecdsa_signature_parameters_present", "7.1.3.2.2", from_day(2020, 8, 20), "signatureAlgorithm"),
+    RsaPssParametersOther => must("rsa_pss_parameters_other", "7.1.3.2.1", from_day(2020, 8, 20), "signatureAlgorithm"),
     AuthorityCertIssuerPresent =>
         must("authority_cert_issuer_present", "7.1.2.11.1", from_day(2023, 9, 15), "tbsCertificate.extensions.authorityKeyIdentifier"),
     CrlDistributionPointsCritical => must("crl_distribution_points_critical", "7.1.2.11.2", None, "tbsCertificate.extensions.cRLDistributionPoints"),
@@ -111,6 +116,8 @@ impl WebFieldRule {
                 && !are_null(&algorithm.parameters),
             WebFieldRule::EcdsaSignatureParametersPresent => is_ecdsa(algorithm.oid)
                 && algorithm.parameters.is_some(),
+            WebFieldRule::RsaPssParametersOther => is_rsa_pss(algorithm.oid)
+                && !are_pss(&algorithm.parameters),
             WebFieldRule::AuthorityCertIssuerPresent => has_issuer(
                 &values.authority_key_identifier,
             ),

@@ -8,7 +8,8 @@ ghost use Rattle.x509_lint_web.specs.Sentence.{IsTold};
 use crate::algorithms::{are_curve, are_null, is_ec, is_rsa};
 use crate::entry::{WebEntry, entries};
 use crate::numbers::{
-    has_even_modulus, has_no_exponent, has_outside_exponent, has_short_modulus, has_uneven_modulus,
+    has_divided_modulus, has_even_modulus, has_no_exponent, has_outside_exponent,
+    has_short_modulus, has_uneven_modulus,
 };
 use crate::seen::Part;
 use crate::values::WebValues;
@@ -36,6 +37,9 @@ pub enum WebKeyRule {
     /// The modulus of an RSA key is even (TLS BR 6.1.6, warning, from 2013-01-01).
     RsaModulusEven,
 
+    /// A prime from 3 to 751 divides the modulus of an RSA key (TLS BR 6.1.6, warning, from 2013-01-01).
+    RsaModulusSmallFactor,
+
     /// The exponent of an RSA key is even, or below 3 (TLS BR 6.1.6, error, from 2013-01-01).
     RsaExponentInvalid,
 
@@ -44,13 +48,14 @@ pub enum WebKeyRule {
 }
 
 /// How the rules are told, in the order of their variants.
-static ENTRIES: [WebEntry; 8] = entries! {
+static ENTRIES: [WebEntry; 9] = entries! {
     KeyAlgorithmOther => must("key_algorithm_other", "7.1.3.1", from_day(2020, 8, 20), "tbsCertificate.subjectPublicKeyInfo"),
     RsaKeyParametersNotNull => must("rsa_key_parameters_not_null", "7.1.3.1.1", from_day(2020, 8, 20), "tbsCertificate.subjectPublicKeyInfo"),
     EcCurveOther => must("ec_curve_other", "6.1.5", None, "tbsCertificate.subjectPublicKeyInfo"),
     RsaModulusShort => must("rsa_modulus_short", "6.1.5", from_day(2014, 1, 1), "tbsCertificate.subjectPublicKeyInfo"),
     RsaModulusUneven => must("rsa_modulus_uneven", "6.1.5", from_day(2020, 8, 20), "tbsCertificate.subjectPublicKeyInfo"),
     RsaModulusEven => should("rsa_modulus_even", "6.1.6", from_day(2013, 1, 1), "tbsCertificate.subjectPublicKeyInfo"),
+    RsaModulusSmallFactor => should("rsa_modulus_small_factor", "6.1.6", from_day(2013, 1, 1), "tbsCertificate.subjectPublicKeyInfo"),
     RsaExponentInvalid => must("rsa_exponent_invalid", "6.1.6", from_day(2013, 1, 1), "tbsCertificate.subjectPublicKeyInfo"),
     RsaExponentOutside => should("rsa_exponent_outside", "6.1.6", from_day(2013, 1, 1), "tbsCertificate.subjectPublicKeyInfo"),
 };
@@ -87,6 +92,8 @@ impl WebKeyRule {
             WebKeyRule::RsaModulusShort => is_rsa(key) && has_short_modulus(&values.rsa_numbers),
             WebKeyRule::RsaModulusUneven => is_rsa(key) && has_uneven_modulus(&values.rsa_numbers),
             WebKeyRule::RsaModulusEven => is_rsa(key) && has_even_modulus(&values.rsa_numbers),
+            WebKeyRule::RsaModulusSmallFactor => is_rsa(key)
+                && has_divided_modulus(&values.rsa_numbers),
             WebKeyRule::RsaExponentInvalid => is_rsa(key) && has_no_exponent(&values.rsa_numbers),
             WebKeyRule::RsaExponentOutside => is_rsa(key)
                 && has_outside_exponent(&values.rsa_numbers),

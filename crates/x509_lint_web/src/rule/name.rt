@@ -6,9 +6,7 @@ ghost use Rattle.x509_lint_web.specs.Seen as seen;
 ghost use Rattle.x509_lint_web.specs.Sentence.{IsTold};
 
 use crate::entry::{WebEntry, entries};
-use crate::names::{
-    NameFault, has_attribute, has_common_names, has_name, is_empty_name, is_host_among,
-};
+use crate::names::{NameFault, has_attribute, has_name, is_empty_name, is_host_among, is_repeated};
 use crate::seen::Part;
 use crate::values::WebValues;
 use x509_base::Raw;
@@ -47,10 +45,23 @@ pub enum WebNameRule {
     /// A dNSName has one label, perhaps behind a wildcard (TLS BR 7.1.2.7.12, error, from 2015-11-01).
     DnsNameOneLabel,
 
-    /// A dNSName ends in example, invalid, local, localhost or test (TLS BR 7.1.2.7.12, error, from 2015-11-01).
+    /// A dNSName ends in alt, example, internal, invalid, local, localhost or test (TLS BR 7.1.2.7.12, error, from
+    /// 2015-11-01).
     DnsNameInternal,
 
-    /// An iPAddress is a reserved one (TLS BR 7.1.2.7.12, error, from 2015-11-01).
+    /// A dNSName ends in a label of digits, as the text of an IPv4 address does (TLS BR 7.1.2.7.12, error, from
+    /// 2015-11-01).
+    DnsNameNumeric,
+
+    /// A dNSName is one below in-addr.arpa or ip6.arpa (TLS BR 7.1.2.7.12, warning, from 2026-03-15).
+    DnsNameReverse,
+
+    /// A dNSName ends in onion, and what stands in front of that isn't the address of an onion service of version 3, 56
+    /// characters of base 32 of which the last is d (TLS BR 7.1.2.7.12, error, from 2023-09-15).
+    DnsNameOnionOther,
+
+    /// An iPAddress is a reserved one: it lies in a block of IANA's registries of special-purpose addresses, or is of
+    /// multicast (TLS BR 7.1.2.7.12, error, from 2015-11-01).
     AddressReserved,
 
     /// The subject has a commonName (TLS BR 7.1.2.7, warning, from 2023-09-15).
@@ -72,7 +83,7 @@ pub enum WebNameRule {
 }
 
 /// How the rules are told, in the order of their variants.
-static ENTRIES: [WebEntry; 15] = entries! {
+static ENTRIES: [WebEntry; 18] = entries! {
     SubjectAltNameAbsent => must("subject_alt_name_absent", "7.1.2.7.12", None, "tbsCertificate.extensions.subjectAltName"),
     SubjectAltNameWithoutHost => must("subject_alt_name_without_host", "7.1.2.7.12", None, "tbsCertificate.extensions.subjectAltName"),
     SubjectAltNameOther => must("subject_alt_name_other", "7.1.2.7.12", None, "tbsCertificate.extensions.subjectAltName"),
@@ -82,6 +93,9 @@ static ENTRIES: [WebEntry; 15] = entries! {
     DnsNameWildcard => must("dns_name_wildcard", "7.1.2.7.12", None, "tbsCertificate.extensions.subjectAltName"),
     DnsNameOneLabel => must("dns_name_one_label", "7.1.2.7.12", from_day(2015, 11, 1), "tbsCertificate.extensions.subjectAltName"),
     DnsNameInternal => must("dns_name_internal", "7.1.2.7.12", from_day(2015, 11, 1), "tbsCertificate.extensions.subjectAltName"),
+    DnsNameNumeric => must("dns_name_numeric", "7.1.2.7.12", from_day(2015, 11, 1), "tbsCertificate.extensions.subjectAltName"),
+    DnsNameReverse => should("dns_name_reverse", "7.1.2.7.12", from_day(2026, 3, 15), "tbsCertificate.extensions.subjectAltName"),
+    DnsNameOnionOther => must("dns_name_onion_other", "7.1.2.7.12", from_day(2023, 9, 15), "tbsCertificate.extensions.subjectAltName"),
     AddressReserved => must("address_reserved", "7.1.2.7.12", from_day(2015, 11, 1), "tbsCertificate.extensions.subjectAltName"),
     CommonNamePresent => should("common_name_present", "7.1.2.7", from_day(2023, 9, 15), "tbsCertificate.subject"),
     CommonNameNotInAltName => must("common_name_not_in_alt_name", "7.1.4.3", from_day(2012, 7, 1), "tbsCertificate.subject"),
@@ -109,6 +123,9 @@ impl WebNameRule {
             WebNameRule::DnsNameWildcard => Part::Name(NameFault::Wildcard),
             WebNameRule::DnsNameOneLabel => Part::Name(NameFault::OneLabel),
             WebNameRule::DnsNameInternal => Part::Name(NameFault::Internal),
+            WebNameRule::DnsNameNumeric => Part::Name(NameFault::Numeric),
+            WebNameRule::DnsNameReverse => Part::Name(NameFault::Reverse),
+            WebNameRule::DnsNameOnionOther => Part::Name(NameFault::OtherOnion),
             WebNameRule::AddressReserved => Part::Name(NameFault::Reserved),
             WebNameRule::CommonNamePresent
             | WebNameRule::CommonNameNotInAltName
@@ -146,6 +163,12 @@ impl WebNameRule {
             WebNameRule::DnsNameWildcard => has_name(NameFault::Wildcard, &values.subject_alt_name),
             WebNameRule::DnsNameOneLabel => has_name(NameFault::OneLabel, &values.subject_alt_name),
             WebNameRule::DnsNameInternal => has_name(NameFault::Internal, &values.subject_alt_name),
+            WebNameRule::DnsNameNumeric => has_name(NameFault::Numeric, &values.subject_alt_name),
+            WebNameRule::DnsNameReverse => has_name(NameFault::Reverse, &values.subject_alt_name),
+            WebNameRule::DnsNameOnionOther => has_name(
+                NameFault::OtherOnion,
+                &values.subject_alt_name,
+            ),
             WebNameRule::AddressReserved => has_name(NameFault::Reserved, &values.subject_alt_name),
             WebNameRule::CommonNamePresent => has_attribute(COMMON_NAME, subject),
             WebNameRule::CommonNameNotInAltName => values.has_stray_name,
@@ -154,7 +177,7 @@ impl WebNameRule {
                 ORGANIZATIONAL_UNIT_NAME,
                 subject,
             ),
-            WebNameRule::CommonNameRepeated => has_common_names(subject),
+            WebNameRule::CommonNameRepeated => is_repeated(COMMON_NAME, subject),
         }
     }
 }

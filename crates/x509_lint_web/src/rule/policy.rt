@@ -1,4 +1,4 @@
-//! Rules on certificate policies and authority information access of certificates of TLS servers (TLS BR 7.1.2.7.2, 7.1.2.7.4, 7.1.2.7.7, 7.1.2.7.9).
+//! Rules on certificate policies and authority information access of certificates of TLS servers (TLS BR 7.1.2.7, 7.1.2.11.2).
 
 ghost use Rattle.std.specs.Prelude.{◌≡◌};
 ghost use Rattle.x509_lint_web.specs.Policy as grammar;
@@ -7,12 +7,13 @@ ghost use Rattle.x509_lint_web.specs.Sentence.{IsTold};
 
 use crate::entry::{WebEntry, entries};
 use crate::names::{has_attribute, has_other_attribute};
-use crate::places::{have_other_location, is_other_method_among};
+use crate::places::{have_other_location, is_other_method_among, is_without_revocation};
 use crate::policies::{
     ANY_POLICY, DOMAIN_VALIDATED, ORGANIZATION_VALIDATED, are_qualified, has_policy,
     is_other_among, is_reserved_among,
 };
 use crate::seen::Part;
+use crate::times::is_longer;
 use crate::values::WebValues;
 use x509_base::Raw;
 use x509_cert::certificate::CertificateInner;
@@ -22,7 +23,7 @@ use x509_lint::extensions::{extensions_of, has, has_critical};
 use x509_lint::passes;
 use x509_name::attr::attribute_types::{COUNTRY_NAME, ORGANIZATION_NAME};
 
-/// Rules on certificate policies and authority information access of certificates of TLS servers (TLS BR 7.1.2.7.2, 7.1.2.7.4, 7.1.2.7.7, 7.1.2.7.9).
+/// Rules on certificate policies and authority information access of certificates of TLS servers (TLS BR 7.1.2.7, 7.1.2.11.2).
 #[derive(Clone, Copy, Debug, PartialEq, Eq)]
 pub enum WebPolicyRule {
     /// There are no certificate policies (TLS BR 7.1.2.7.9, error).
@@ -61,10 +62,18 @@ pub enum WebPolicyRule {
 
     /// An access location isn't an HTTP URI (TLS BR 7.1.2.7.7, error, from 2023-09-15).
     AccessLocationNotHttp,
+
+    /// There is neither a CRLDistributionPoints nor an access description for OCSP, and the validity is longer than 10 days
+    /// (TLS BR 7.1.2.11.2, error, from 2024-03-15).
+    RevocationAbsentOver10Days,
+
+    /// There is neither a CRLDistributionPoints nor an access description for OCSP, and the validity is longer than 7 days
+    /// (TLS BR 7.1.2.11.2, error, from 2026-03-15).
+    RevocationAbsentOver7Days,
 }
 
 /// How the rules are told, in the order of their variants.
-static ENTRIES: [WebEntry; 12] = entries! {
+static ENTRIES: [WebEntry; 14] = entries! {
     CertificatePoliciesAbsent => must("certificate_policies_absent", "7.1.2.7.9", None, "tbsCertificate.extensions.certificatePolicies"),
     CertificatePoliciesCritical =>
         must("certificate_policies_critical", "7.1.2.7.6", from_day(2023, 9, 15), "tbsCertificate.extensions.certificatePolicies"),
@@ -79,6 +88,8 @@ static ENTRIES: [WebEntry; 12] = entries! {
         must("authority_info_access_absent", "7.1.2.7.7", from_day(2012, 7, 1), "tbsCertificate.extensions.authorityInfoAccess"),
     AccessMethodOther => must("access_method_other", "7.1.2.7.7", from_day(2023, 9, 15), "tbsCertificate.extensions.authorityInfoAccess"),
     AccessLocationNotHttp => must("access_location_not_http", "7.1.2.7.7", from_day(2023, 9, 15), "tbsCertificate.extensions.authorityInfoAccess"),
+    RevocationAbsentOver10Days => must("revocation_absent_over_10_days", "7.1.2.11.2", from_day(2024, 3, 15), "tbsCertificate.extensions"),
+    RevocationAbsentOver7Days => must("revocation_absent_over_7_days", "7.1.2.11.2", from_day(2026, 3, 15), "tbsCertificate.extensions"),
 };
 
 impl WebPolicyRule {
@@ -102,6 +113,8 @@ impl WebPolicyRule {
             | WebPolicyRule::AccessLocationNotHttp => Part::Extension(
                 AuthorityInfoAccessSyntax::OID,
             ),
+            WebPolicyRule::RevocationAbsentOver10Days | WebPolicyRule::RevocationAbsentOver7Days =>
+                Part::Extensions,
             _ => Part::Extension(CertificatePolicies::OID),
         }
     }
@@ -143,6 +156,10 @@ impl WebPolicyRule {
             WebPolicyRule::AccessLocationNotHttp => have_other_location(
                 &values.authority_info_access,
             ),
+            WebPolicyRule::RevocationAbsentOver10Days => is_longer(10, certificate)
+                && is_without_revocation(certificate, values),
+            WebPolicyRule::RevocationAbsentOver7Days => is_longer(7, certificate)
+                && is_without_revocation(certificate, values),
         }
     }
 }

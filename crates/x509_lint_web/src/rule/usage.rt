@@ -8,7 +8,9 @@ ghost use Rattle.x509_lint_web.specs.Sentence.{IsTold};
 use crate::algorithms::{is_ec, is_rsa};
 use crate::entry::{WebEntry, entries};
 use crate::seen::Part;
-use crate::usages::{has_bit_not_of_ec, has_forbidden_purpose, is_not_of_servers, is_other_among};
+use crate::usages::{
+    has_bit_not_of_ec, has_forbidden_purpose, is_not_of_servers, is_other_among, signs_as_authority,
+};
 use crate::values::WebValues;
 use x509_base::Raw;
 use x509_cert::certificate::CertificateInner;
@@ -120,7 +122,7 @@ impl WebUsageRule {
             WebUsageRule::KeyUsageAbsent => !has::<KeyUsage>(extensions),
             WebUsageRule::KeyUsageNotCritical => has_uncritical::<KeyUsage>(extensions),
             WebUsageRule::KeyUsageOfAuthority =>
-                passes!(&values.key_usage, usage => usage.key_cert_sign() || usage.crl_sign()),
+                passes!(&values.key_usage, usage => signs_as_authority(usage)),
             WebUsageRule::KeyUsageNotOfRsa => is_rsa(key)
                 && passes!(&values.key_usage, usage => is_not_of_servers(usage) || usage.key_agreement()),
             WebUsageRule::KeyUsageNotOfEc => is_ec(key)

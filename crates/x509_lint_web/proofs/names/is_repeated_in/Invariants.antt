@@ -1,12 +1,12 @@
 use Rattle.std.proofs.Common.{◌≡◌, ◌≤◌, ◌+◌, length}
-use Rattle.x509_lint_web.specs.Name.{common_name_count}
-use Rattle.x509_lint_web.proofs.names.has_common_names_in.Given as goal
+use Rattle.x509_lint_web.specs.Words.{count_of}
+use Rattle.x509_lint_web.proofs.names.is_repeated_in.Given as goal
 
--- one commonName was passed, or none
+-- one attribute of the type was passed, or none
 abbrev pub invariant-loop-rdns : goal.invariant-loop-rdns
 invariant-loop-rdns l = record {
   few : l.passed ≤ 1;
-  all : l.passed + common_name_count l.rdns ≡ common_name_count l.initial.rdns;
+  all : l.passed + count_of l.oid l.rdns ≡ count_of l.oid l.initial.rdns;
 }
 
 abbrev pub decreases-loop-rdns : goal.decreases-loop-rdns
