@@ -10,17 +10,51 @@ import tempfile
 import tomllib
 
 TOP = pathlib.Path(__file__).resolve().parents[2]
+NO_END, OTHER_END = "no line ends its PEM", "the line that ends its PEM hasn't the label of the one that begins it"
+NO_BASE64 = "what stands in its PEM is no base64"
 PEM = {
-    b"-----BEGIN CERTIFICATE-----\nMAA\n-----END CERTIFICATE-----\n": "x509",
-    b"-----BEGIN CERTIFICATE-----\nMA A=\n-----END CERTIFICATE-----\n": "x509",
-    b"-----BEGIN CERTIFICATE-----\nMAA=\n-----END X509 CRL-----\n": "x509",
-    b"-----BEGIN TRUSTED CERTIFICATE-----\n": "x509",
-    b"-----BEGIN ": "x509",
-    b"-----BEGIN X509 CRL-----\nMAA=\n": "crl",
-    b"-----BEGIN CERTIFICATE REQUEST-----\r\n": "req",
+    b"-----BEGIN CERTIFICATE-----\nMAA\n-----END CERTIFICATE-----\n": NO_BASE64,
+    b"-----BEGIN CERTIFICATE-----\nMA A=\n-----END CERTIFICATE-----\n": NO_BASE64,
+    b"-----BEGIN CERTIFICATE-----\nMAA=\n-----END X509 CRL-----\n": OTHER_END,
+    b"-----BEGIN CERTIFICATE-----\nMAA=\n-----\n": OTHER_END,
+    b"-----BEGIN TRUSTED CERTIFICATE-----\n": NO_END,
+    b"-----BEGIN X509 CRL-----\nMAA=\n": NO_END,
+    b"-----BEGIN CERTIFICATE REQUEST-----\r\n": NO_END,
 }
 PEM_OF_NOTHING = b"-----BEGIN CERTIFICATE-----\nMAA=\n-----END CERTIFICATE-----\n"
-GARBAGE = PEM_OF_NOTHING, b"-----BEGIN", b"\xff" * 40, b"\x30\x80\0\0", b"no certificate\n", b" -----BEGIN CERTIFICATE-----\n", b"\n" + b"ab" * 20
+NO_ELEMENT = "; it doesn't begin with an element of DER"
+UNFINISHED = "; it begins as a SEQUENCE does, but its length isn't DER, or goes beyond the end"
+NO_SEQUENCE = "; the element that it begins with is no SEQUENCE"
+WHOLE = "; its SEQUENCE is whole, but something in it is wrong"
+GARBAGE = {
+    PEM_OF_NOTHING: WHOLE,
+    b"-----BEGIN ": "; it begins as PEM does, but no whole line of it begins an object",
+    b"-----BEGIN": NO_ELEMENT,
+    b"\xff" * 40: NO_ELEMENT,
+    b"\x30\x80\0\0": UNFINISHED,
+    b"\x30\x05\x02\x01\x01": UNFINISHED,
+    b"\x02\x01\x01": NO_SEQUENCE,
+    b"\x30\x03\x02\x01\x01": WHOLE,
+    b"\x30\x03\x02\x01\x01\0\0": "; behind its SEQUENCE, at offset 5, stand octets that don't belong to it: 2",
+    b"no certificate\n": NO_ELEMENT,
+    b" -----BEGIN CERTIFICATE-----\n": NO_ELEMENT,
+    b"\n" + b"ab" * 20: NO_ELEMENT,
+}
+
+
+def behind(place, count):
+    return f"; behind its SEQUENCE, at offset {place}, stand octets that don't belong to it: {count}"
+
+
+def looks(data):
+    """What is told of DER that is no object of its kind: by the octets of its outer element alone (X.690 8.1)."""
+    digits = data[1] & 127 if data[1] > 127 else 0
+    end = 2 + digits + (int.from_bytes(data[2 : 2 + digits], "big") if digits else data[1])
+    if data[0] != 0x30:
+        return NO_ELEMENT if end > len(data) else NO_SEQUENCE
+    if end > len(data):
+        return UNFINISHED
+    return behind(end, len(data) - end) if end < len(data) else WHOLE
 
 
 def pem_of(data):
@@ -91,12 +125,13 @@ class Program:
         """Inputs that are no object."""
         yield "nothing", [], b"", self.told("standard input", f"{self.no_object}; it is empty")
         yield "white space", [], b" \r\n", self.told("standard input", f"{self.no_object}; it is empty")
-        for data, command in PEM.items():
-            hint = f"; this looks like PEM, but not of one object: `openssl {command} -outform DER`"
-            yield f"PEM {data[:30]}", [], data, self.told("standard input", self.no_object + hint)
-        for data in GARBAGE:
-            yield f"garbage {data[:30]}", [], data, self.told("standard input", self.no_object)
-        yield "an input of 16 MiB", [], b"\1" * 16777216, self.told("standard input", self.no_object)
+        for data, reason in PEM.items():
+            yield f"PEM {data[:30]}", [], data, self.told("standard input", reason)
+        for data, told in GARBAGE.items():
+            yield f"garbage {data[:30]}", [], data, self.told("standard input", self.no_object + told)
+        for data, _, _ in self.objects:
+            yield f"an object of {len(data)} bytes and an octet behind it", [], data + b"\0", self.told("standard input", self.no_object + looks(data + b"\0"))
+        yield "an input of 16 MiB", [], b"\1" * 16777216, self.told("standard input", self.no_object + NO_SEQUENCE)
         yield "a longer input", [], b"\1" * 16777217, self.told("standard input", "longer than 16777216 bytes")
 
     def files(self, folder):
@@ -141,15 +176,22 @@ class Program:
         yield "PEM of several objects on standard input", [], b"".join(pem), (max(statuses), texts("standard input"), "")
         found = texts("standard input", 2)
         for name, data, reason in (
-            ("no object", PEM_OF_NOTHING, self.no_object),
+            ("no object", PEM_OF_NOTHING, self.no_object + WHOLE),
             ("an empty object", PEM_OF_NOTHING.replace(b"MAA=\n", b""), f"{self.no_object}; it is empty"),
+            ("no base64", PEM_OF_NOTHING.replace(b"MAA=\n", b"MAA\n"), NO_BASE64),
+            ("another end", PEM_OF_NOTHING.replace(b"END CERTIFICATE", b"END X"), OTHER_END),
+            ("no end", PEM_OF_NOTHING.rpartition(b"-----END")[0], NO_END),
         ):
             said = f"{self.name}: standard input, object 1: {reason}\n"
             yield f"PEM of {name} and several others", [], data + b"".join(pem), (2, found, said)
-        said = "".join(f"{self.name}: standard input, object {at}: {self.no_object}\n" for at in (1, 2))
+        said = "".join(f"{self.name}: standard input, object {at}: {self.no_object}{WHOLE}\n" for at in (1, 2))
         yield "PEM of twice no object", [], PEM_OF_NOTHING * 2, (2, "", said)
-        hint = f"{self.no_object}; this looks like PEM, but not of one object: `openssl x509 -outform DER`"
-        yield "PEM of several objects without its last line", [], b"".join(pem).rstrip()[:-1], self.told("standard input", hint)
+        ends = (b"\n" + b"a comment\n" * 1_800_000).join(pem)
+        yield "PEM of more than 16 MiB", [], ends, (max(statuses), texts("standard input"), "")
+        last = len(pem)
+        said = f"{self.name}: standard input, object {last}: {OTHER_END}\n"
+        shown = "".join(f"standard input, object {at}:\n{text}" for at, (_, text, _) in enumerate(self.objects[:-1], 1) if text)
+        yield "PEM of several objects without its last hyphen", [], b"".join(pem).rstrip()[:-1], (2, shown, said)
         first = self.objects[0]
         heading = f"standard input:\n{first[1]}" if first[1] else ""
         yield "PEM of several objects and a file", [str(path), "-"], first[0], (max(statuses), texts(path) + heading, "")

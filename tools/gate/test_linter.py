@@ -15,7 +15,7 @@ sys.path.insert(0, str(pathlib.Path(__file__).resolve().parents[1]))
 from common.der import BIT_STRING, BMP_STRING, GENERALIZED_TIME, IA5_STRING, NULL, PRINTABLE_STRING, TELETEX_STRING, TRUE, UTC_TIME, UTF8_STRING, VISIBLE_STRING
 from common.der import bit_string, context, element, integer, object_identifier, octet_string, sequence, set_of
 from list_rule_names import rule_names
-from object_runs import PEM_OF_NOTHING, Program, counted, ended, pem_of
+from object_runs import NO_ELEMENT, NO_SEQUENCE, PEM_OF_NOTHING, UNFINISHED, WHOLE, Program, behind, counted, ended, looks, pem_of
 
 ENUMERATED, NUMERIC_STRING, UNIVERSAL_STRING = 0x0A, 0x12, 0x1C
 EMAIL_ADDRESS, DOMAIN_COMPONENT = object_identifier(1, 2, 840, 113549, 1, 9, 1), object_identifier(0, 9, 2342, 19200300, 100, 1, 25)
@@ -1506,11 +1506,11 @@ def verbose_json(program):
             result(paths[0], "nothing found"),
             result(paths[1], "refused", reason="no such file"),
             result(f"{paths[2]}, object 1", "nothing found"),
-            result(f"{paths[2]}, object 2", "refused", reason=NO_OBJECT),
+            result(f"{paths[2]}, object 2", "refused", reason=NO_OBJECT + WHOLE),
             told(f"{paths[2]}, object 3", *number),
             result(paths[3], "refused", reason=f"{NO_OBJECT}; it is empty"),
         ]
-        said = [f"{paths[1]}: no such file", f"{paths[2]}, object 2: {NO_OBJECT}", f"{paths[3]}: {NO_OBJECT}; it is empty"]
+        said = [f"{paths[1]}: no such file", f"{paths[2]}, object 2: {NO_OBJECT}{WHOLE}", f"{paths[3]}: {NO_OBJECT}; it is empty"]
         said = "".join(f"x509_linter: {it}\n" for it in said)
         found = ended(program, ["-v", "--json", *paths])
         yield "several files with -v and --json", found == (2, "".join(lines), said), found
@@ -1520,7 +1520,7 @@ def verbose_json(program):
         found = ended(program, ["-v", "--json", *only, *paths])
         yield "several files with -v, --json and --only", found == (2, "".join(lines), said), found
         found = ended(program, ["-v", "--json", "crl", paths[0]])
-        yield "no CRL, with -v and --json", found[:2] == (2, result(paths[0], "refused", reason="not a CRL in DER, PEM or hex")), found
+        yield "no CRL, with -v and --json", found[:2] == (2, result(paths[0], "refused", reason=f"not a CRL in DER, PEM or hex{WHOLE}")), found
     with open("/dev/full", "wb") as full:
         found = ended(program, ["-v", "--json"], certificate(), stdout=full)
         yield "a full output, with -v and --json", found == (2, "", "x509_linter: standard input: the output can't be written\n"), found
@@ -1563,16 +1563,18 @@ def twice(option):
 def refused(program):
     """For each run over what is no object a name, whether it ended as stated, and how it ended."""
     odd = certificate(serial=integer(0))
-    for name, data in (
-        ("an octet", b"\x30"),
-        ("hex of an odd length", odd.hex()[:-1].encode()),
-        ("an octet too few", odd[:-1]),
-        ("an octet too many", odd + b"\0"),
-        ("a line feed behind DER", odd + b"\n"),
-        ("an element of another type", octet_string(odd)),
+    for name, data, told in (
+        ("an octet", b"\x30", UNFINISHED),
+        ("hex of an odd length", odd.hex()[:-1].encode(), NO_ELEMENT),
+        ("an octet too few", odd[:-1], UNFINISHED),
+        ("an octet too many", odd + b"\0", behind(len(odd), 1)),
+        ("a line feed behind DER", odd + b"\n", behind(len(odd), 1)),
+        ("an element of another type", octet_string(odd), NO_SEQUENCE),
+        ("version 4", certificate(version=context(0, integer(3))), WHOLE),
+        ("a UTCTime without seconds", certificate(dates=sequence(utc(b"2601020304Z"), utc(b"270102030405Z"))), WHOLE),
     ):
         found = ended(program, [], data)
-        yield name, found == (2, "", f"x509_linter: standard input: {NO_OBJECT}\n"), found
+        yield name, found == (2, "", f"x509_linter: standard input: {NO_OBJECT}{told}\n"), found
     for words, option in ((["-v", "-v"], "-v"), (["--json", "--json"], "--json"), (["-v", "--json", "-v"], "-v"), (["--json", "-v", "-v", "--json"], "--json")):
         found = ended(program, words, odd)
         yield f"the words {words}", found == (2, "", twice(option) + USAGE), found
@@ -1581,7 +1583,7 @@ def refused(program):
         yield f"the words {words}", found == (2, "", no_option(option) + USAGE), found
     for kind, data in (("certificate", crl()), ("crl", csr()), ("csr", anchor()), ("anchor", csr())):
         found = ended(program, [kind], data)
-        yield f"no {kind}", found == (2, "", f"x509_linter: standard input: not {KINDS[kind]} in DER, PEM or hex\n"), found
+        yield f"no {kind}", found == (2, "", f"x509_linter: standard input: not {KINDS[kind]} in DER, PEM or hex{looks(data)}\n"), found
 
 
 # what certificate() breaks of the Baseline Requirements, with the sections, and the day from which on each is in force
@@ -1649,7 +1651,7 @@ def at_moments(program):
         yield f"the words {words}", found == (*usage[:2], no_option(option) + usage[2]), found
     for name, other in (("CRL", crl()), ("CSR", csr()), ("trust anchor", anchor())):
         found = ended(program, ["--web", moment], other)
-        yield f"a {name} with --web", found == (2, "", "x509_linter: standard input: not a certificate in DER, PEM or hex\n"), found
+        yield f"a {name} with --web", found == (2, "", f"x509_linter: standard input: not a certificate in DER, PEM or hex{looks(other)}\n"), found
     with tempfile.TemporaryDirectory() as folder:
         paths = [f"{folder}/{at}" for at in range(2)]
         for path in paths:
@@ -1781,7 +1783,7 @@ def summaries(program):
         chain = b"".join(next(pem_of(data)) for data in (weak, odd, certificate())) + PEM_OF_NOTHING
         for path, data in zip(paths, (weak, both, certificate(), chain, b"")):
             pathlib.Path(path).write_bytes(data)
-        said = f"x509_linter: {paths[3]}, object 4: {NO_OBJECT}\nx509_linter: {paths[4]}: {NO_OBJECT}; it is empty\n"
+        said = f"x509_linter: {paths[3]}, object 4: {NO_OBJECT}{WHOLE}\nx509_linter: {paths[4]}: {NO_OBJECT}; it is empty\n"
         found = ended(program, ["--count", *paths])
         yield "several files with --count", found == (2, f"3 {warned}2 {bad}", said), found
         found = ended(program, ["--count", "-v", *paths])

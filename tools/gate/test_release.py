@@ -179,7 +179,7 @@ def try_linter(test, folder, at, what):
     test.says(
         f"{what}: x509_linter",
         (found.returncode, lines, found.stderr),
-        (2, [], "x509_linter: text.c: not a certificate, CRL, CSR or trust anchor in DER, PEM or hex\n"),
+        (2, [], "x509_linter: text.c: not a certificate, CRL, CSR or trust anchor in DER, PEM or hex; it doesn't begin with an element of DER\n"),
     )
 
 

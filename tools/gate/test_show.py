@@ -17,13 +17,12 @@ sys.path.insert(0, str(pathlib.Path(__file__).resolve().parents[1]))
 sys.path.insert(0, str(pathlib.Path(__file__).resolve().parents[1] / "robustness"))
 from common.der import UTF8_STRING, element, sequence
 from hostile_payloads import NAME_ROWS, alternative_names, certificate, key_usage, relative_name
-from object_runs import Program, counted, ended, pem_of
+from object_runs import NO_ELEMENT, WHOLE, Program, counted, ended, looks, pem_of
 from shown_objects import FORGED, anchors, crls, long_crl, objects, requests
 from shown_timestamps import runs as runs_over_timestamps
 from test_linter import SIGNATURE
 
 NO_OBJECT = "not a certificate, CRL, CSR or trust anchor in DER, PEM or hex"
-REFUSED = f"x509_show: standard input: {NO_OBJECT}\n"
 UNWRITTEN = "x509_show: standard input: the output can't be written\n"
 USAGE = "usage: x509_show [certificate|crl|csr|anchor] [--json] [FILE..]\n       x509_show --sct-input ISSUER [FILE]\n"
 # What is refused with each word.
@@ -37,8 +36,12 @@ def run(program, data, *words):
     return status, printed + said
 
 
-def no_such(word):
-    return f"x509_show: standard input: not {WORDS[word]} in DER, PEM or hex\n"
+def no_such(word, data):
+    return f"x509_show: standard input: not {WORDS[word]} in DER, PEM or hex{looks(data)}\n"
+
+
+def refused(data):
+    return f"x509_show: standard input: {NO_OBJECT}{looks(data)}\n"
 
 
 def is_forged(program, data):
@@ -98,10 +101,10 @@ def wrong_kinds():
 def refusals(whole):
     """For each run that refuses bytes or words a name, its bytes, its words, and how it ends."""
     for name, data, word in wrong_kinds():
-        yield name, data, [word], (2, no_such(word))
+        yield name, data, [word], (2, no_such(word, data))
     for name, word, data, _ in objects():
-        yield f"{name} with an octet too few", data[:-1], [], (2, REFUSED)
-        yield f"{name} with an octet too many", data + b"\0", [word], (2, no_such(word))
+        yield f"{name} with an octet too few", data[:-1], [], (2, refused(data[:-1]))
+        yield f"{name} with an octet too many", data + b"\0", [word], (2, no_such(word, data + b"\0"))
     for name, words in (
         ("another word", ["--xml"]),
         ("JSON twice", ["--json", "--json"]),
@@ -115,9 +118,9 @@ def refusals(whole):
         ("a kind behind a file", ["no-such/", "--json"], "no-such/"),
     ):
         yield name, whole, words, (2, f"x509_show: {file}: no such file\n")
-    yield "an octet too few", whole[:-1], [], (2, REFUSED)
-    yield "an octet too many", whole + b"\0", [], (2, REFUSED)
-    yield "hex of an odd length", whole.hex()[:-1].encode(), [], (2, REFUSED)
+    yield "an octet too few", whole[:-1], [], (2, refused(whole[:-1]))
+    yield "an octet too many", whole + b"\0", [], (2, refused(whole + b"\0"))
+    yield "hex of an odd length", whole.hex()[:-1].encode(), [], (2, f"x509_show: standard input: {NO_OBJECT}{NO_ELEMENT}\n")
 
 
 def closed_early(program, data, front, *words):
@@ -147,7 +150,7 @@ def many_pieces(program):
     yield "a long crl as hex", is_otherwise(program, data.hex().encode(), lines)
     # A fault behind all entries: the signature is no BIT STRING.
     found = run(program, data[: -len(SIGNATURE)] + b"\x04" + SIGNATURE[1:])
-    yield "a long crl without a signature", None if found == (2, REFUSED) else f"{found[0]}, {found[1][:80]!r}"
+    yield "a long crl without a signature", None if found == (2, refused(data)) else f"{found[0]}, {found[1][:80]!r}"
     for words in ([], ["--json"]):
         whole = run(program, data, *words)[1]
         # A pipe holds 64 KiB, so that at least one write of several fails.
@@ -206,7 +209,7 @@ def with_files(program):
             yield f"files {words}", None if found == (0, wanted, "") else f"{found}, and not {wanted}"
         found = ended(program, ["--json"], b"".join([next(pem_of(certificate()))] * 2))
         yield "PEM of several objects, as JSON", None if found == (0, document * 2, "") else f"{found}, and not {document * 2}"
-        found, wanted = ended(program, ["crl", *paths]), "".join(f"x509_show: {path}: not a CRL in DER, PEM or hex\n" for path in paths)
+        found, wanted = ended(program, ["crl", *paths]), "".join(f"x509_show: {path}: not a CRL in DER, PEM or hex{WHOLE}\n" for path in paths)
         yield "files of another kind", None if found == (2, "", wanted) else f"{found}, and not {wanted}"
 
 

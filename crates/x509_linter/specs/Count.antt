@@ -24,6 +24,6 @@ abbrev pub IsCounted : {R F W E : Type 0} → World R F W E → Subject → List
 IsCounted {E = E} world subject inputs old new status =
     (empty : Kept) × (kept : Kept) × (errors : E) × (first : ℕ)
     × (empty.text.items ≡ [])
-    × AreDone program.name subject (world_of world.gives world.opens world.file_gives Keeps world.takes_errors) (are_headed subject inputs) inputs
+    × AreDone program.name subject (world_of world.gives world.opens world.file_gives Keeps world.takes_errors world.counts) (are_headed subject inputs) inputs
     (streams old.input empty old.errors) (streams new.input kept errors) first
-    × IsSummedUp (writes world.takes world.takes_errors) kept.text.items first (outputs old.output errors) (outputs new.output new.errors) status
+    × IsSummedUp (writes world.takes world.takes_errors world.counts) kept.text.items first (outputs old.output errors) (outputs new.output new.errors) status

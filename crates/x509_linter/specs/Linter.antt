@@ -264,6 +264,7 @@ abbrev pub is_unwritten : Fault → Bool
 is_unwritten (faults.Unopened e) = false
 is_unwritten faults.Unreadable = false
 is_unwritten faults.TooLong = false
+is_unwritten (faults.Unarmoured why) = false
 is_unwritten (faults.NoObject looks) = false
 is_unwritten faults.Unwritten = true
 is_unwritten faults.Memory = false

@@ -110,7 +110,7 @@ impl Printer for Chosen<'_> {
         b"x509_linter"
     }
 
-    fn no_object(&self) -> &'static [u8] {
+    fn no_object(&self) -> &'static str {
         no_object(self.linter.kind)
     }
 

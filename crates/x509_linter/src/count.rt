@@ -10,7 +10,7 @@ use crate::chosen::Chosen;
 use crate::linter::Linter;
 use crate::summary::summary_of;
 use std::alloc::{AllocError, Global};
-use x509_object_run::{Opener, refuse_memory, say, show_all};
+use x509_object_run::{Console, Opener, refuse_memory, say, show_all};
 use x509_tool_run::{Sink, Source, WriteError};
 
 /// What is printed, kept.
@@ -41,14 +41,14 @@ fn greater_of(first: u8, second: u8) -> u8
 }
 
 /// Prints a summary of a text, and answers the greater of a status and its own.
-fn sum_up<W: Sink, E: Sink>(
+fn sum_up<W: Sink, E: Console>(
     alloc: Global,
     text: &[u8],
     first: u8,
     writer: &mut W,
     errors: &mut E,
 ) -> u8
-    ensures { IsSummedUp (writes W.takes E.takes) text.now first (outputs writer.old errors.old) (outputs writer.new errors.new) result }
+    ensures { IsSummedUp (writes W.takes E.takes E.counts) text.now first (outputs writer.old errors.old) (outputs writer.new errors.new) result }
 {
     match summary_of(alloc, text) {
         Ok(summary) => {
@@ -60,7 +60,7 @@ fn sum_up<W: Sink, E: Sink>(
 }
 
 /// Prints a summary of what a printer prints of inputs, and answers the greatest status.
-pub(crate) fn count<R: Source, F: Source + Drop, O: Opener<F>, W: Sink, E: Sink>(
+pub(crate) fn count<R: Source, F: Source + Drop, O: Opener<F>, W: Sink, E: Console>(
     alloc: Global,
     printer: &Chosen<'_>,
     names: &[&str],
@@ -69,7 +69,7 @@ pub(crate) fn count<R: Source, F: Source + Drop, O: Opener<F>, W: Sink, E: Sink>
     writer: &mut W,
     errors: &mut E,
 ) -> u8
-    ensures { IsCounted (world_of R.gives (O.opens opener.now) F.gives W.takes E.takes) (subject printer.now) (inputs_of (map (λ name. name.now) names.now))
+    ensures { IsCounted (world_of R.gives (O.opens opener.now) F.gives W.takes E.takes E.counts) (subject printer.now) (inputs_of (map (λ name. name.now) names.now))
         (streams reader.old writer.old errors.old) (streams reader.new writer.new errors.new) result }
 {
     let mut kept = Kept {

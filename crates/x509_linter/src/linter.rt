@@ -303,15 +303,15 @@ fn option_misuse<'b>(options: &[&'b str]) -> (&'static [u8], &'b str, &'static [
 }
 
 /// How it is told that bytes are the encoding of no object of this kind, or of none at all.
-pub(crate) fn no_object(kind: Option<Kind>) -> &'static [u8]
+pub(crate) fn no_object(kind: Option<Kind>) -> &'static str
     ensures { result.now ≡ grammar.no_object kind }
 {
     match kind {
-        None => b"not a certificate, CRL, CSR or trust anchor in DER, PEM or hex",
-        Some(Kind::Certificate) => b"not a certificate in DER, PEM or hex",
-        Some(Kind::Crl) => b"not a CRL in DER, PEM or hex",
-        Some(Kind::Csr) => b"not a CSR in DER, PEM or hex",
-        Some(Kind::Anchor) => b"not a trust anchor in DER, PEM or hex",
+        None => "not a certificate, CRL, CSR or trust anchor in DER, PEM or hex",
+        Some(Kind::Certificate) => "not a certificate in DER, PEM or hex",
+        Some(Kind::Crl) => "not a CRL in DER, PEM or hex",
+        Some(Kind::Csr) => "not a CSR in DER, PEM or hex",
+        Some(Kind::Anchor) => "not a trust anchor in DER, PEM or hex",
     }
 }
 
@@ -537,25 +537,20 @@ fn is_unwritten(fault: Fault) -> bool
         Fault::Unopened(_)
         | Fault::Unreadable
         | Fault::TooLong
+        | Fault::Unarmoured(_)
         | Fault::NoObject(_)
         | Fault::Memory => false,
     }
 }
 
-/// An object of JSON that says why an input is refused: two texts, one behind the other.
-fn refused_json(
-    alloc: Global,
-    heading: Heading<'_>,
-    what: &[u8],
-    more: &[u8],
-) -> Result<Vec<u8>, AllocError>
-    ensures { IfOk result (λ text. text.items ≡ grammar.refused_json (heading_text heading.entry) (what.now ++ more.now)) }
+/// An object of JSON that says why an input is refused.
+fn refused_json(alloc: Global, heading: Heading<'_>, reason: &[u8]) -> Result<Vec<u8>, AllocError>
+    ensures { IfOk result (λ text. text.items ≡ grammar.refused_json (heading_text heading.entry) reason.now) }
 {
     let front = front_of(alloc, heading)?;
     let mut text = Vec::from_slice(alloc, front.as_str().as_bytes())?;
     text.extend_from_slice(b"\"result\": \"refused\", \"reason\": \"")?;
-    text.extend_from_slice(what)?;
-    text.extend_from_slice(more)?;
+    text.extend_from_slice(reason)?;
     text.extend_from_slice(b"\"}\n")?;
     Ok(text)
 }
@@ -571,8 +566,8 @@ pub(crate) fn refused(
     ensures { IfOk result (λ text. text.items ≡ grammar.refused telling kind (heading_text heading.entry) fault) }
 {
     if tells_refusals(telling) && !is_unwritten(fault) {
-        let (what, more) = fault_words(no_object(kind), fault);
-        return refused_json(alloc, heading, what, more);
+        let words = fault_words(alloc, no_object(kind), fault)?;
+        return refused_json(alloc, heading, words.as_str().as_bytes());
     }
     Ok(Vec::new(alloc))
 }
@@ -626,7 +621,7 @@ impl Printer for Linter {
         b"x509_linter"
     }
 
-    fn no_object(&self) -> &'static [u8] {
+    fn no_object(&self) -> &'static str {
         no_object(self.kind)
     }
 

@@ -14,15 +14,18 @@ mod values;
 use crate::linter::Linter;
 use crate::run::lint;
 use std::fs::File;
+use std::io::IsTerminal;
 use std::process::ExitCode;
-use x509_object_run::refuse_memory;
+use x509_object_run::{Counter, refuse_memory};
 use x509_tool_run::words;
 
 fn main(rt: HostRuntime) -> ExitCode {
     let alloc = rt.alloc();
     let mut reader = rt.stdin();
     let mut writer = rt.stdout();
-    let mut errors = rt.stderr();
+    let errors = rt.stderr();
+    let is_terminal = errors.is_terminal();
+    let mut errors = Counter::new(errors, &rt, is_terminal);
     let status = match words(alloc, &rt) {
         Ok(words) => lint::<_, File, _, _, _>(
             alloc,

@@ -14,7 +14,7 @@ use crate::count::count;
 use crate::linter::{Linter, is_web};
 use crate::values::joined;
 use std::alloc::{AllocError, Global};
-use x509_object_run::{Asked, Opener, obey, refuse_memory, show_all, split};
+use x509_object_run::{Asked, Console, Opener, obey, refuse_memory, show_all, split};
 use x509_tool_run::{Sink, Source};
 
 /// What words ask for that choose among findings, of whose options these choose nothing; `None` where they don't choose, or ask for nothing.
@@ -43,7 +43,7 @@ fn others_of<'a, 'b>(options: &'a [&'b str], plain: &'a [&'b str]) -> &'a [&'b s
 }
 
 /// Prints what is said of inputs, or sums it up.
-fn report<R: Source, F: Source + Drop, O: Opener<F>, W: Sink, E: Sink>(
+fn report<R: Source, F: Source + Drop, O: Opener<F>, W: Sink, E: Console>(
     alloc: Global,
     printer: &Chosen<'_>,
     names: &[&str],
@@ -52,7 +52,7 @@ fn report<R: Source, F: Source + Drop, O: Opener<F>, W: Sink, E: Sink>(
     writer: &mut W,
     errors: &mut E,
 ) -> u8
-    ensures { AreReported (world_of R.gives (O.opens opener.now) F.gives W.takes E.takes) (subject printer.now)
+    ensures { AreReported (world_of R.gives (O.opens opener.now) F.gives W.takes E.takes E.counts) (subject printer.now)
         (has_count (map (λ option. option.now) printer.now.options.now)) (inputs_of (map (λ name. name.now) names.now))
         (streams reader.old writer.old errors.old) (streams reader.new writer.new errors.new) result }
 {
@@ -64,7 +64,7 @@ fn report<R: Source, F: Source + Drop, O: Opener<F>, W: Sink, E: Sink>(
 }
 
 /// Does what options and names ask for, where these of the options choose nothing.
-fn do_chosen<R: Source, F: Source + Drop, O: Opener<F>, W: Sink, E: Sink>(
+fn do_chosen<R: Source, F: Source + Drop, O: Opener<F>, W: Sink, E: Console>(
     alloc: Global,
     options: &[&str],
     plain: &[&str],
@@ -75,7 +75,7 @@ fn do_chosen<R: Source, F: Source + Drop, O: Opener<F>, W: Sink, E: Sink>(
     errors: &mut E,
 ) -> u8
     requires { map (λ option. option.now) plain.now ≡ plain_options (map (λ option. option.now) options.now) }
-    ensures { IsObeyed (world_of R.gives (O.opens opener.now) F.gives W.takes E.takes)
+    ensures { IsObeyed (world_of R.gives (O.opens opener.now) F.gives W.takes E.takes E.counts)
         (map (λ option. option.now) options.now) (map (λ name. name.now) names.now)
         (streams reader.old writer.old errors.old) (streams reader.new writer.new errors.new) result }
 {
@@ -97,7 +97,7 @@ fn do_chosen<R: Source, F: Source + Drop, O: Opener<F>, W: Sink, E: Sink>(
 }
 
 /// Does what options and names ask for.
-fn do_asked<R: Source, F: Source + Drop, O: Opener<F>, W: Sink, E: Sink>(
+fn do_asked<R: Source, F: Source + Drop, O: Opener<F>, W: Sink, E: Console>(
     alloc: Global,
     options: &[&str],
     names: &[&str],
@@ -106,7 +106,7 @@ fn do_asked<R: Source, F: Source + Drop, O: Opener<F>, W: Sink, E: Sink>(
     writer: &mut W,
     errors: &mut E,
 ) -> u8
-    ensures { IsTried (world_of R.gives (O.opens opener.now) F.gives W.takes E.takes)
+    ensures { IsTried (world_of R.gives (O.opens opener.now) F.gives W.takes E.takes E.counts)
         (map (λ option. option.now) options.now) (map (λ name. name.now) names.now)
         (streams reader.old writer.old errors.old) (streams reader.new writer.new errors.new) result }
 {
@@ -166,7 +166,7 @@ fn names_with<'a>(
 }
 
 /// Does what options and names ask for, behind a first name.
-fn do_behind<R: Source, F: Source + Drop, O: Opener<F>, W: Sink, E: Sink>(
+fn do_behind<R: Source, F: Source + Drop, O: Opener<F>, W: Sink, E: Console>(
     alloc: Global,
     options: &[&str],
     first: &str,
@@ -176,7 +176,7 @@ fn do_behind<R: Source, F: Source + Drop, O: Opener<F>, W: Sink, E: Sink>(
     writer: &mut W,
     errors: &mut E,
 ) -> u8
-    ensures { IsTried (world_of R.gives (O.opens opener.now) F.gives W.takes E.takes)
+    ensures { IsTried (world_of R.gives (O.opens opener.now) F.gives W.takes E.takes E.counts)
         (map (λ option. option.now) options.now) (first.now ∷ map (λ name. name.now) others.now)
         (streams reader.old writer.old errors.old) (streams reader.new writer.new errors.new) result }
 {
@@ -195,7 +195,7 @@ fn do_behind<R: Source, F: Source + Drop, O: Opener<F>, W: Sink, E: Sink>(
 }
 
 /// Does what options and names ask for, of which the first is the text of a moment.
-fn do_at<R: Source, F: Source + Drop, O: Opener<F>, W: Sink, E: Sink>(
+fn do_at<R: Source, F: Source + Drop, O: Opener<F>, W: Sink, E: Console>(
     alloc: Global,
     options: &[&str],
     moment: &str,
@@ -205,7 +205,7 @@ fn do_at<R: Source, F: Source + Drop, O: Opener<F>, W: Sink, E: Sink>(
     writer: &mut W,
     errors: &mut E,
 ) -> u8
-    ensures { IsTried (world_of R.gives (O.opens opener.now) F.gives W.takes E.takes)
+    ensures { IsTried (world_of R.gives (O.opens opener.now) F.gives W.takes E.takes E.counts)
         (map (λ option. option.now) options.now) (moment_text moment.now ∷ map (λ name. name.now) others.now)
         (streams reader.old writer.old errors.old) (streams reader.new writer.new errors.new) result }
 {
@@ -225,7 +225,7 @@ fn do_at<R: Source, F: Source + Drop, O: Opener<F>, W: Sink, E: Sink>(
 }
 
 /// Does what options and names ask for, where a date may stand for a moment.
-fn do_dated<R: Source, F: Source + Drop, O: Opener<F>, W: Sink, E: Sink>(
+fn do_dated<R: Source, F: Source + Drop, O: Opener<F>, W: Sink, E: Console>(
     alloc: Global,
     options: &[&str],
     names: &[&str],
@@ -234,7 +234,7 @@ fn do_dated<R: Source, F: Source + Drop, O: Opener<F>, W: Sink, E: Sink>(
     writer: &mut W,
     errors: &mut E,
 ) -> u8
-    ensures { IsTried (world_of R.gives (O.opens opener.now) F.gives W.takes E.takes)
+    ensures { IsTried (world_of R.gives (O.opens opener.now) F.gives W.takes E.takes E.counts)
         (map (λ option. option.now) options.now) (dated (map (λ option. option.now) options.now) (map (λ name. name.now) names.now))
         (streams reader.old writer.old errors.old) (streams reader.new writer.new errors.new) result }
 {
@@ -249,7 +249,7 @@ fn do_dated<R: Source, F: Source + Drop, O: Opener<F>, W: Sink, E: Sink>(
 }
 
 /// Does what words ask for in which each value stands with its option.
-fn lint_joined<R: Source, F: Source + Drop, O: Opener<F>, W: Sink, E: Sink>(
+fn lint_joined<R: Source, F: Source + Drop, O: Opener<F>, W: Sink, E: Console>(
     alloc: Global,
     words: &[String],
     opener: &O,
@@ -257,7 +257,7 @@ fn lint_joined<R: Source, F: Source + Drop, O: Opener<F>, W: Sink, E: Sink>(
     writer: &mut W,
     errors: &mut E,
 ) -> u8
-    ensures { IsRun (world_of R.gives (O.opens opener.now) F.gives W.takes E.takes) (map string_bytes words.now)
+    ensures { IsRun (world_of R.gives (O.opens opener.now) F.gives W.takes E.takes E.counts) (map string_bytes words.now)
         (streams reader.old writer.old errors.old) (streams reader.new writer.new errors.new) result }
 {
     match split(alloc, words) {
@@ -276,7 +276,7 @@ fn lint_joined<R: Source, F: Source + Drop, O: Opener<F>, W: Sink, E: Sink>(
 
 /// Does what the words ask for: tells which rules the inputs break that they name, or standard input, and answers the greatest of their statuses; or
 /// says how the program is called, what it does, or its version.
-pub(crate) fn lint<R: Source, F: Source + Drop, O: Opener<F>, W: Sink, E: Sink>(
+pub(crate) fn lint<R: Source, F: Source + Drop, O: Opener<F>, W: Sink, E: Console>(
     alloc: Global,
     words: &[String],
     opener: &O,
@@ -284,7 +284,7 @@ pub(crate) fn lint<R: Source, F: Source + Drop, O: Opener<F>, W: Sink, E: Sink>(
     writer: &mut W,
     errors: &mut E,
 ) -> u8
-    ensures { IsRun (world_of R.gives (O.opens opener.now) F.gives W.takes E.takes) (joined (map string_bytes words.now))
+    ensures { IsRun (world_of R.gives (O.opens opener.now) F.gives W.takes E.takes E.counts) (joined (map string_bytes words.now))
         (streams reader.old writer.old errors.old) (streams reader.new writer.new errors.new) result }
 {
     match joined(alloc, words) {

@@ -1,7 +1,7 @@
 -- Inputs that are shown one after the other.
 use Rattle.std.proofs.Common.{◌≡◌, ◌<◌, ◌+◌, ℕ, max, false, codes, List, [], ◌∷◌, ◌++◌, length, map, take, get_or, Option, None, refl, sym, subst, arith}
-use Rattle.std.proofs.lemmas.List.{length-map, length-take-le, map_push, take_more}
-use Rattle.x509_object_run.specs.Object.{Subject}
+use Rattle.std.proofs.lemmas.List.{map_push, take_more}
+use Rattle.x509_object_run.specs.Object.{Item, Subject}
 use Rattle.x509_object_run.specs.declared.heading.Headed.{Headed}
 use Rattle.x509_object_run.specs.Program.{AreDone, AreNumberedDone, IsDone, IsNumberedDone, Misused, Outputs, Writes, Streams, World, call_from}
 use Rattle.x509_object_run.specs.Words.{has_option}
@@ -20,15 +20,15 @@ done_further program subject world headed (other ∷ names) name old middle new 
     let behind = done_further program subject world headed names name h.0 middle new h.2 status h.4 k in
     (h.0, h.1, max h.2 status, h.3, behind, rw h.5 (max-assoc h.1 h.2 status))
 
--- one object more, behind those before
-pub numbered_further : {W E : Type 0} (program : List ℕ) (subject : Subject) (by : Writes W E) (label : List ℕ) (before : ℕ) (objects : List (List ℕ)) (object : List ℕ) (old middle new : Outputs W E) (worst status : ℕ) → AreNumberedDone program subject by label before objects old middle worst → IsNumberedDone program subject by label (before + length objects + 1) object middle new status → AreNumberedDone program subject by label before (objects ++ object ∷ []) old new (max worst status)
-numbered_further program subject by label before [] object old middle new worst status h k =
-    let place : before + length {A = List ℕ} [] + 1 ≡ before + 1 = omega arith in
-    let here : IsNumberedDone program subject by label (before + 1) object middle new status = subst (λ n. IsNumberedDone program subject by label n object middle new status) place k in
-    (new, status, 0, subst (λ s. IsNumberedDone program subject by label (before + 1) object s new status) h.0 here, (refl, refl), rw h.1 (max-zero status))
-numbered_further program subject by label before (other ∷ objects) object old middle new worst status h k =
-    let place : before + length (other ∷ objects) + 1 ≡ before + 1 + length objects + 1 = omega arith in
-    let behind = numbered_further program subject by label (before + 1) objects object h.0 middle new h.2 status h.4 (subst (λ n. IsNumberedDone program subject by label n object middle new status) place k) in
+-- one item more, behind those before
+pub numbered_further : {W E : Type 0} (program : List ℕ) (subject : Subject) (by : Writes W E) (label : List ℕ) (before : ℕ) (items : List Item) (item : Item) (old middle new : Outputs W E) (worst status : ℕ) → AreNumberedDone program subject by label before items old middle worst → IsNumberedDone program subject by label (before + length items + 1) item middle new status → AreNumberedDone program subject by label before (items ++ item ∷ []) old new (max worst status)
+numbered_further program subject by label before [] item old middle new worst status h k =
+    let place : before + length {A = Item} [] + 1 ≡ before + 1 = omega arith in
+    let here : IsNumberedDone program subject by label (before + 1) item middle new status = subst (λ n. IsNumberedDone program subject by label n item middle new status) place k in
+    (new, status, 0, subst (λ s. IsNumberedDone program subject by label (before + 1) item s new status) h.0 here, (refl, refl), rw h.1 (max-zero status))
+numbered_further program subject by label before (other ∷ items) item old middle new worst status h k =
+    let place : before + length (other ∷ items) + 1 ≡ before + 1 + length items + 1 = omega arith in
+    let behind = numbered_further program subject by label (before + 1) items item h.0 middle new h.2 status h.4 (subst (λ n. IsNumberedDone program subject by label n item middle new status) place k) in
     (h.0, h.1, max h.2 status, h.3, behind, rw h.5 (max-assoc h.1 h.2 status))
 
 -- words that ask for nothing
@@ -39,10 +39,3 @@ misused asked misuse options names no_help no_version none = rw (no_help, no_ver
 pub done_next : {X R F W E : Type 0} (view : X → List ℕ) (program : List ℕ) (subject : Subject) (world : World R F W E) (headed : Headed) (names : List X) (i : ℕ) (d : X) (old middle new : Streams R W E) (worst status : ℕ) → i < length names → AreDone program subject world headed (map view (take i names)) old middle worst → IsDone program subject world headed (view (get_or names i d)) middle new status → AreDone program subject world headed (map view (take (i + 1) names)) old new (max worst status)
 done_next view program subject world headed names i d old middle new worst status lt h k =
     rw (take_more names i d lt, map_push view (take i names) (get_or names i d)) (done_further program subject world headed (map view (take i names)) (view (get_or names i d)) old middle new worst status h k)
-
--- one object more, of the objects so far
-pub numbered_next : {X W E : Type 0} (view : X → List ℕ) (program : List ℕ) (subject : Subject) (by : Writes W E) (label : List ℕ) (objects : List X) (i : ℕ) (d : X) (old middle new : Outputs W E) (worst status : ℕ) → i < length objects → AreNumberedDone program subject by label 0 (map view (take i objects)) old middle worst → IsNumberedDone program subject by label (i + 1) (view (get_or objects i d)) middle new status → AreNumberedDone program subject by label 0 (map view (take (i + 1) objects)) old new (max worst status)
-numbered_next view program subject by label objects i d old middle new worst status lt h k =
-    let count : 0 + length (map view (take i objects)) + 1 ≡ i + 1 = rw (length-map (take i objects) view, length-take-le i objects (omega (arith, lt))) (omega arith) in
-    rw (take_more objects i d lt, map_push view (take i objects) (get_or objects i d))
-    (numbered_further program subject by label 0 (map view (take i objects)) (view (get_or objects i d)) old middle new worst status h (subst (λ n. IsNumberedDone program subject by label n (view (get_or objects i d)) middle new status) (sym count) k))

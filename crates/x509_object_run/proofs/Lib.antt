@@ -1,2 +1,3 @@
 pub mod SplitWords
 pub mod InputsShown
+pub mod Readings

@@ -3,3 +3,4 @@ pub mod Labels
 pub mod Faults
 pub mod Object
 pub mod Program
+pub mod Reading

@@ -16,6 +16,7 @@ use Rattle.x509_object_run.specs.declared.fault.PrintError.TheVariants.{NoObject
 use Rattle.x509_tool_run.specs.Input.{Input, Whole, TooLong, Unreadable, Unkept}
 use Rattle.x509_tool_run.specs.Pem.{pem_objects}
 use Rattle.x509_tool_run.specs.Program.{IsWritten, IsCutOff}
+use Rattle.x509_tool_run.specs.Scan.{Text}
 use Rattle.x509_tool_run.specs.declared.refusal.Refusal.{Refusal}
 use Rattle.x509_tool_run.specs.declared.refusal.Refusal.TheVariants.{Read, Because}
 
@@ -48,14 +49,18 @@ else_text input None = decoded_or input (decode_of (digits_of input))
 abbrev pub object_bytes : List ℕ → List ℕ
 object_bytes input = else_text input (one_of (pem_objects input))
 
--- the objects that an input is of: those of its PEM, where it has some; else what its hex digits or the whole is
-abbrev pub objects_of : List ℕ → Option (List (List ℕ)) → List (List ℕ)
-objects_of input None = else_text input None ∷ []
-objects_of input (Some []) = else_text input None ∷ []
-objects_of input (Some (object ∷ objects)) = object ∷ objects
+-- the bytes of an input that isn't PEM: those of its hex digits where it is hex text, else itself
+abbrev pub text_bytes : List ℕ → List ℕ
+text_bytes input = else_text input None
 
-abbrev pub input_objects : List ℕ → List (List ℕ)
-input_objects input = objects_of input (pem_objects input)
+-- What is told of: the bytes of an object, or why there is none.
+abbrev pub Item : Type 0
+Item = Result (List ℕ) Fault
+
+-- a text of PEM
+abbrev pub item_of : Text → Item
+item_of (Ok bytes) = Ok bytes
+item_of (Err why) = Err (faults.Unarmoured why)
 
 -- what an object of an input of several is called
 abbrev pub numbered : List ℕ → ℕ → List ℕ

@@ -1,30 +1,41 @@
 -- What a program over objects does, from its words to its status.
-use Rattle.std.specs.Prelude.{◌≡◌, ◌⊎◌, ℕ, ◌+◌, max, Bool, true, false, List, [], ◌∷◌, ◌++◌, codes, length, Option, Some, None, Result, Ok, Err, ltb, if◌then◌else◌}
+use Rattle.std.specs.Prelude.{◌≡◌, ◌⊎◌, ◌<◌, ℕ, ◌+◌, ◌-◌, ◌^◌, max, min, Bool, true, false, List, [], ◌∷◌, ◌++◌, codes, length, map, Option, Some, None, Result, Ok, Err, ltb, if◌then◌else◌}
+use Rattle.std.specs.Fmt.{decimal}
+use Rattle.std.specs.Option.{option_to_list}
 use Rattle.x509_object_run.specs.Faults.{complaint, fault_text, short_complaint}
 use Rattle.x509_object_run.specs.Labels.{is_standard, label_of}
-use Rattle.x509_object_run.specs.Object.{AreShown, Steps, Subject, heading_for, input_objects, numbered, object_bytes, one_of, unread_fault}
+use Rattle.x509_object_run.specs.Object.{AreShown, Item, Steps, Subject, heading_for, item_of, numbered, object_bytes, text_bytes, unread_fault}
 use Rattle.x509_object_run.specs.Words.{has_option, inputs_of, names_of, options_of}
 use Rattle.x509_object_run.specs.declared.fault.Fault.{Fault}
-use Rattle.x509_object_run.specs.declared.fault.Fault.TheVariants.{Unopened, Unwritten, Memory}
+use Rattle.x509_object_run.specs.declared.fault.Fault.TheVariants.{Unopened, Unreadable, TooLong, Unarmoured, NoObject, Unwritten, Memory}
 use Rattle.x509_object_run.specs.declared.fault.OpenError.{OpenError}
 use Rattle.x509_object_run.specs.declared.heading.Headed.{Headed}
 use Rattle.x509_tool_run.specs.Answer.{as_line}
-use Rattle.x509_tool_run.specs.Input.{Input, IsRead, Whole}
+use Rattle.x509_tool_run.specs.Input.{Input, IsRead, Whole, input_limit}
+use Rattle.x509_tool_run.specs.Pem.{lines_of}
 use Rattle.x509_tool_run.specs.Program.{IsWritten, IsCutOff}
+use Rattle.x509_tool_run.specs.Scan.{Mark, is_pem, last_text, mark_from, start, texts_from}
+use Rattle.x509_tool_run.specs.Transfer.{Moves}
+use Rattle.x509_tool_run.specs.declared.scan.Stage.{Stage}
 use Rattle.x509_tool_run.specs.Version.{version_text}
 
+-- how an object may be counted: from one state to another, where so many are told of or none
+abbrev pub Counts : Type 0 → Type 1
+Counts E = E → Option ℕ → E → Type 0
+
 -- What a program works with: how standard input is read, which files may be opened and how they are read, how standard output and
--- standard error are written.
+-- standard error are written, and how objects are counted there.
 pub record World (R F W E : Type 0) : Type 1 where
   pub gives : Steps R
   pub opens : List ℕ → Result F OpenError → Type 0
   pub file_gives : Steps F
   pub takes : Steps W
   pub takes_errors : Steps E
+  pub counts : Counts E
 
-abbrev pub world_of : {R F W E : Type 0} → Steps R → (List ℕ → Result F OpenError → Type 0) → Steps F → Steps W → Steps E → World R F W E
-world_of gives opens file_gives takes takes_errors =
-    record { gives = gives; opens = opens; file_gives = file_gives; takes = takes; takes_errors = takes_errors }
+abbrev pub world_of : {R F W E : Type 0} → Steps R → (List ℕ → Result F OpenError → Type 0) → Steps F → Steps W → Steps E → Counts E → World R F W E
+world_of gives opens file_gives takes takes_errors counts =
+    record { gives = gives; opens = opens; file_gives = file_gives; takes = takes; takes_errors = takes_errors; counts = counts }
 
 -- the states of standard input, standard output and standard error
 pub record Streams (R W E : Type 0) : Type 0 where
@@ -77,26 +88,41 @@ outputs output errors = record { output = output; errors = errors }
 pub record Writes (W E : Type 0) : Type 1 where
   pub takes : Steps W
   pub takes_errors : Steps E
+  pub counts : Counts E
 
-abbrev pub writes : {W E : Type 0} → Steps W → Steps E → Writes W E
-writes takes takes_errors = record { takes = takes; takes_errors = takes_errors }
+abbrev pub writes : {W E : Type 0} → Steps W → Steps E → Counts E → Writes W E
+writes takes takes_errors counts = record { takes = takes; takes_errors = takes_errors; counts = counts }
+
+-- as `x509_linter: 48211 objects so far`, and a line feed
+abbrev pub progress : List ℕ → ℕ → List ℕ
+progress program count = program ++ (codes ": " ++ (decimal count ++ codes " objects so far\n"))
+
+-- so many are told of, unless there is no memory for that; or none are
+abbrev pub IsCounted : {E : Type 0} → List ℕ → Steps E → Option ℕ → E → E → Type 0
+IsCounted program takes_errors None old new = new ≡ old
+IsCounted program takes_errors (Some count) old new = IsTold takes_errors old (progress program count) new ⊎ (new ≡ old)
+
+-- an object is counted
+abbrev pub IsNoted : {W E : Type 0} → List ℕ → Writes W E → Outputs W E → Outputs W E → Type 0
+IsNoted {W} {E} program by old new =
+    (middle : E) × (due : Option ℕ) × by.counts old.errors due middle × IsCounted program by.takes_errors due middle new.errors × (new.output ≡ old.output)
 
 -- that there is no memory is told of what is called so
-abbrev pub IsForgotten : {W E : Type 0} → List ℕ → Subject → Writes W E → List ℕ → Outputs W E → Outputs W E → Type 0
-IsForgotten program subject by label old new =
-    (new.output ≡ old.output) × IsTold by.takes_errors old.errors (complaint program label (fault_text subject.no_object Memory)) new.errors
+abbrev pub IsForgotten : {W E : Type 0} → List ℕ → Steps E → List ℕ → Outputs W E → Outputs W E → Type 0
+IsForgotten program takes_errors label old new =
+    (new.output ≡ old.output) × IsTold takes_errors old.errors (complaint program label (fault_text [] Memory)) new.errors
 
 -- nothing whole is printed: that is printed and told, or there is no memory
-abbrev pub IsRefused : {W E : Type 0} → List ℕ → Subject → Writes W E → Headed → List ℕ → Fault → Outputs W E → Outputs W E → Type 0
-IsRefused program subject by headed label fault old new =
-    (IsTold by.takes old.output (subject.refused (heading_for headed label) fault) new.output
-    × IsTold by.takes_errors old.errors (complaint program label (fault_text subject.no_object fault)) new.errors)
-    ⊎ IsForgotten program subject by label old new
+abbrev pub IsRefused : {W E : Type 0} → List ℕ → Subject → Steps W → Steps E → Headed → List ℕ → Fault → Outputs W E → Outputs W E → Type 0
+IsRefused program subject takes takes_errors headed label fault old new =
+    (IsTold takes old.output (subject.refused (heading_for headed label) fault) new.output
+    × IsTold takes_errors old.errors (complaint program label (fault_text subject.no_object fault)) new.errors)
+    ⊎ IsForgotten program takes_errors label old new
 
 -- what came of printing ends it: with its status, or with a message and status 2
 abbrev pub IsEnded : {W E : Type 0} → List ℕ → Subject → Writes W E → Headed → List ℕ → Result ℕ Fault → Outputs W E → Outputs W E → ℕ → Type 0
 IsEnded program subject by headed label (Ok shown) old new status = (new ≡ old) × (status ≡ shown)
-IsEnded program subject by headed label (Err fault) old new status = IsRefused program subject by headed label fault old new × (status ≡ 2)
+IsEnded program subject by headed label (Err fault) old new status = IsRefused program subject by.takes by.takes_errors headed label fault old new × (status ≡ 2)
 
 -- the bytes of an object are shown and ended
 abbrev pub IsObjectDone : {W E : Type 0} → List ℕ → Subject → Writes W E → Headed → List ℕ → List ℕ → Outputs W E → Outputs W E → ℕ → Type 0
@@ -105,40 +131,115 @@ IsObjectDone {W} program subject by headed label bytes old new status =
     × AreShown subject (heading_for headed label) bytes by.takes old.output middle result
     × IsEnded program subject by headed label result (outputs middle old.errors) new status
 
--- that with this number of an input of several, or there is no memory for what it is called
-abbrev pub IsNumberedDone : {W E : Type 0} → List ℕ → Subject → Writes W E → List ℕ → ℕ → List ℕ → Outputs W E → Outputs W E → ℕ → Type 0
-IsNumberedDone program subject by label number bytes old new status =
-    IsObjectDone program subject by (subject.headed true) (numbered label number) bytes old new status
-    ⊎ (IsForgotten program subject by label old new × (status ≡ 2))
+-- the bytes of an object are shown and ended, or it is told why there are none
+abbrev pub IsItemShown : {W E : Type 0} → List ℕ → Subject → Writes W E → Headed → List ℕ → Item → Outputs W E → Outputs W E → ℕ → Type 0
+IsItemShown program subject by headed label (Ok bytes) old new status = IsObjectDone program subject by headed label bytes old new status
+IsItemShown program subject by headed label (Err fault) old new status = IsRefused program subject by.takes by.takes_errors headed label fault old new × (status ≡ 2)
+
+-- and it is counted
+abbrev pub IsItemDone : {W E : Type 0} → List ℕ → Subject → Writes W E → Headed → List ℕ → Item → Outputs W E → Outputs W E → ℕ → Type 0
+IsItemDone {W} {E} program subject by headed label item old new status =
+    (middle : Outputs W E) × IsItemShown program subject by headed label item old middle status × IsNoted program by middle new
+
+-- the number of an item of several, which goes no further than a number of the machine
+abbrev pub number_of : ℕ → ℕ
+number_of count = min count (2 ^ 64 - 1)
+
+-- an item that is called by this number, or there is no memory for what it is called
+abbrev pub IsCalledDone : {W E : Type 0} → List ℕ → Subject → Writes W E → List ℕ → ℕ → Item → Outputs W E → Outputs W E → ℕ → Type 0
+IsCalledDone program subject by label number item old new status =
+    IsItemDone program subject by (subject.headed true) (numbered label number) item old new status
+    ⊎ (IsForgotten program by.takes_errors label old new × (status ≡ 2))
+
+-- that with this number of an input of several
+abbrev pub IsNumberedDone : {W E : Type 0} → List ℕ → Subject → Writes W E → List ℕ → ℕ → Item → Outputs W E → Outputs W E → ℕ → Type 0
+IsNumberedDone program subject by label number item old new status = IsCalledDone program subject by label (number_of number) item old new status
 
 -- those behind the first so many, one after the other, and the greatest of their statuses
-abbrev pub AreNumberedDone : {W E : Type 0} → List ℕ → Subject → Writes W E → List ℕ → ℕ → List (List ℕ) → Outputs W E → Outputs W E → ℕ → Type 0
+abbrev pub AreNumberedDone : {W E : Type 0} → List ℕ → Subject → Writes W E → List ℕ → ℕ → List Item → Outputs W E → Outputs W E → ℕ → Type 0
 AreNumberedDone program subject by label before [] old new status = (new ≡ old) × (status ≡ 0)
-AreNumberedDone {W} {E} program subject by label before (bytes ∷ others) old new status =
+AreNumberedDone {W} {E} program subject by label before (item ∷ others) old new status =
     (middle : Outputs W E) × (first : ℕ) × (rest : ℕ)
-    × IsNumberedDone program subject by label (before + 1) bytes old middle first
+    × IsNumberedDone program subject by label (before + 1) item old middle first
     × AreNumberedDone program subject by label (before + 1) others middle new rest
     × (status ≡ max first rest)
 
--- the objects of an input: one is called as the input, and of several each has its number
-abbrev pub AreDoneAs : {W E : Type 0} → List ℕ → Subject → Writes W E → Headed → List ℕ → Option (List ℕ) → List (List ℕ) → Outputs W E → Outputs W E → ℕ → Type 0
-AreDoneAs program subject by headed label (Some bytes) objects old new status = IsObjectDone program subject by headed label bytes old new status
-AreDoneAs program subject by headed label None objects old new status = AreNumberedDone program subject by label 0 objects old new status
+-- the items of an input: one is called as the input, and of several each has its number
+abbrev pub AreItemsDone : {W E : Type 0} → List ℕ → Subject → Writes W E → Headed → List ℕ → List Item → Outputs W E → Outputs W E → ℕ → Type 0
+AreItemsDone program subject by headed label [] old new status = AreNumberedDone program subject by label 0 [] old new status
+AreItemsDone program subject by headed label (item ∷ []) old new status = IsItemDone program subject by headed label item old new status
+AreItemsDone program subject by headed label (item ∷ other ∷ items) old new status =
+    AreNumberedDone program subject by label 0 (item ∷ other ∷ items) old new status
 
-abbrev pub AreObjectsDone : {W E : Type 0} → List ℕ → Subject → Writes W E → Headed → List ℕ → List (List ℕ) → Outputs W E → Outputs W E → ℕ → Type 0
-AreObjectsDone program subject by headed label objects old new status = AreDoneAs program subject by headed label (one_of (Some objects)) objects old new status
+-- the items of lines, where texts of PEM have ended in them
+abbrev pub items_from : List (List ℕ) → List Item
+items_from lines = map item_of (texts_from start lines)
 
--- what was read is shown, or it is told why there is nothing
-abbrev pub IsReadDone : {W E : Type 0} → List ℕ → Subject → Writes W E → Headed → List ℕ → Result (List (List ℕ)) Fault → Outputs W E → Outputs W E → ℕ → Type 0
-IsReadDone program subject by headed label (Ok objects) old new status = AreObjectsDone program subject by headed label objects old new status
-IsReadDone program subject by headed label (Err fault) old new status = IsRefused program subject by headed label fault old new × (status ≡ 2)
+-- and where the last isn't ended
+abbrev pub last_items : Stage → List Item
+last_items stage = map item_of (option_to_list (last_text stage))
+
+-- What an input has that is read whole: the objects of its PEM, or what its hex digits or the whole is.
+abbrev pub whole_items : List ℕ → Mark → List Item → List Item
+whole_items input m items = if is_pem m.stage then items ++ last_items m.stage else Ok (text_bytes input) ∷ []
+
+abbrev pub input_items : List ℕ → List Item
+input_items input = whole_items input (mark_from start (lines_of input)) (items_from (lines_of input))
+
+-- Reads give bytes in so many calls, each of which gives some.
+abbrev pub Gave : {R : Type 0} → Steps R → R → List ℕ → R → Type 0
+Gave gives from bytes to = (reads : ℕ) × Moves gives from reads bytes to
+
+-- more is held of an input than may be: of its bytes, of the base64 of a text in these lines, or of the line behind them
+abbrev pub IsOver : List ℕ → List (List ℕ) → List (List ℕ) → Type 0
+IsOver bytes lines others =
+    (input_limit < length bytes) ⊎ ((input_limit < length (mark_from start lines).digits) ⊎ ((line : List ℕ) × (others ≡ line ∷ []) × (input_limit < length line)))
+
+-- Why reading stops: a read fails, more is held than may be, or memory is refused, for the last line too.
+abbrev pub IsStopped : {R : Type 0} → Steps R → R → List ℕ → List (List ℕ) → List (List ℕ) → R → Fault → Type 0
+IsStopped {R} gives from bytes lines others to Unreadable = (middle : R) × Gave gives from bytes middle × gives middle None to
+IsStopped gives from bytes lines others to TooLong = Gave gives from bytes to × IsOver bytes lines others
+IsStopped {R} gives from bytes lines others to Memory = Gave gives from bytes to ⊎ ((middle : R) × Gave gives from bytes middle × gives middle (Some []) to)
+IsStopped gives from bytes lines others to (Unopened e) = ⊥
+IsStopped gives from bytes lines others to (Unarmoured why) = ⊥
+IsStopped gives from bytes lines others to (NoObject looks) = ⊥
+IsStopped gives from bytes lines others to Unwritten = ⊥
+
+-- items are done, and then it is told why there are no more
+abbrev pub AreCutShort : {W E : Type 0} → List ℕ → Subject → Writes W E → Headed → List ℕ → List Item → Fault → Outputs W E → Outputs W E → ℕ → Type 0
+AreCutShort {W} {E} program subject by headed label items fault old new status =
+    (middle : Outputs W E) × (worst : ℕ) × AreNumberedDone program subject by label 0 items old middle worst
+    × IsRefused program subject by.takes by.takes_errors headed label fault middle new × (status ≡ 2)
+
+-- An input is read to its end, and its items are done. Or reading stops before, or memory is refused at the end.
+abbrev pub IsSourceDone : {R W E : Type 0} → List ℕ → Subject → Writes W E → Steps R → Headed → List ℕ → R → R → Outputs W E → Outputs W E → ℕ → Type 0
+IsSourceDone {R} {W} {E} program subject by gives headed label from to old new status =
+    ((bytes : List ℕ) × (middle : R) × Gave gives from bytes middle × gives middle (Some []) to
+    × AreItemsDone program subject by headed label (input_items bytes) old new status)
+    ⊎ ((bytes : List ℕ) × (lines : List (List ℕ)) × (others : List (List ℕ)) × (fault : Fault)
+    × IsStopped gives from bytes lines others to fault
+    × (lines_of bytes ≡ lines ++ others) × AreCutShort program subject by headed label (items_from lines) fault old new status)
+
+-- the file of a name, if it can be opened
+abbrev pub IsFileDone : {F W E : Type 0} → List ℕ → Subject → Writes W E → Steps F → Headed → List ℕ → Result F OpenError → Outputs W E → Outputs W E → ℕ → Type 0
+IsFileDone {F} program subject by file_gives headed label (Ok file) old new status =
+    (to : F) × IsSourceDone program subject by file_gives headed label file to old new status
+IsFileDone program subject by file_gives headed label (Err e) old new status =
+    IsItemDone program subject by headed label (Err (Unopened e)) old new status
+
+-- the input of a name, which is standard input or a file
+abbrev pub IsInputDone : {R F W E : Type 0} → List ℕ → Subject → World R F W E → Headed → Bool → List ℕ → Streams R W E → Streams R W E → ℕ → Type 0
+IsInputDone program subject world headed true name old new status =
+    IsSourceDone program subject (writes world.takes world.takes_errors world.counts) world.gives headed (label_of name) old.input new.input
+    (outputs old.output old.errors) (outputs new.output new.errors) status
+IsInputDone {R} {F} program subject world headed false name old new status =
+    (new.input ≡ old.input) × (opened : Result F OpenError) × world.opens name opened
+    × IsFileDone program subject (writes world.takes world.takes_errors world.counts) world.file_gives headed (label_of name) opened
+    (outputs old.output old.errors) (outputs new.output new.errors) status
 
 -- an input is read, shown and ended
 abbrev pub IsDone : {R F W E : Type 0} → List ℕ → Subject → World R F W E → Headed → List ℕ → Streams R W E → Streams R W E → ℕ → Type 0
-IsDone program subject world headed name old new status =
-    (read : Result (List (List ℕ)) Fault)
-    × IsNamedReadAs input_objects world.gives world.opens world.file_gives (is_standard name) name old.input new.input read
-    × IsReadDone program subject (writes world.takes world.takes_errors) headed (label_of name) read (outputs old.output old.errors) (outputs new.output new.errors) status
+IsDone program subject world headed name old new status = IsInputDone program subject world headed (is_standard name) name old new status
 
 -- inputs one after the other, and the greatest of their statuses
 abbrev pub AreDone : {R F W E : Type 0} → List ℕ → Subject → World R F W E → Headed → List (List ℕ) → Streams R W E → Streams R W E → ℕ → Type 0

@@ -1,8 +1,8 @@
 //! The bytes of an object in an input.
 
-ghost use Rattle.std.specs.Prelude.{◌≡◌, ◌∷◌, [], IfOk, None, map};
+ghost use Rattle.std.specs.Prelude.{◌≡◌, IfOk, map};
 ghost use Rattle.std.specs.Option.{option_map};
-ghost use Rattle.x509_object_run.specs.Object.{digits_of, else_text, input_objects, is_between, object_bytes, one_of};
+ghost use Rattle.x509_object_run.specs.Object.{digits_of, is_between, object_bytes, one_of, text_bytes};
 ghost use Rattle.x509_tool_run.specs.Pem.{pem_objects};
 
 use hex::FromHexError;
@@ -39,8 +39,8 @@ fn pem_object(alloc: Global, input: &[u8]) -> Result<Option<Vec<u8>>, AllocError
 }
 
 /// The bytes of hex text, with white space and colons wherever they stand; else the input itself.
-fn text_bytes(alloc: Global, input: Vec<u8>) -> Result<Vec<u8>, AllocError>
-    ensures { IfOk result (λ bytes. bytes.items ≡ else_text input.items None) }
+pub(crate) fn text_bytes(alloc: Global, input: Vec<u8>) -> Result<Vec<u8>, AllocError>
+    ensures { IfOk result (λ bytes. bytes.items ≡ text_bytes input.items) }
 {
     let digits = digits_of(alloc, input.as_slice())?;
     match hex::decode(alloc, digits.as_slice()) {
@@ -63,31 +63,5 @@ pub fn object_bytes(alloc: Global, input: Vec<u8>) -> Result<Vec<u8>, AllocError
     match pem_object(alloc, input.as_slice())? {
         Some(object) => Ok(object),
         None => text_bytes(alloc, input),
-    }
-}
-
-/// The one object of an input that isn't PEM.
-fn one_object(alloc: Global, input: Vec<u8>) -> Result<Vec<Vec<u8>>, AllocError>
-    ensures { IfOk result (λ objects. map (λ object. object.items) objects.items ≡ else_text input.items None ∷ []) }
-{
-    let bytes = text_bytes(alloc, input)?;
-    let mut objects = Vec::new(alloc);
-    objects.push(bytes)?;
-    Ok(objects)
-}
-
-/// The objects that an input is of: those of its PEM, where it has some; else one, as [`object_bytes`] has it.
-pub(crate) fn input_objects(alloc: Global, input: Vec<u8>) -> Result<Vec<Vec<u8>>, AllocError>
-    ensures { IfOk result (λ objects. map (λ object. object.items) objects.items ≡ input_objects input.items) }
-{
-    match pem_objects(alloc, input.as_slice())? {
-        Some(objects) => {
-            if objects.is_empty() {
-                one_object(alloc, input)
-            } else {
-                Ok(objects)
-            }
-        }
-        None => one_object(alloc, input),
     }
 }

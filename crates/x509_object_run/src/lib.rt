@@ -2,11 +2,13 @@
 //! an object is for a [`Printer`] to say, and which printer its words ask for for an [`Asked`]. Words of our own are explained in `docs/MAP.md`.
 #![tactic(auto)]
 
+mod console;
 mod fault;
 mod files;
 mod heading;
 mod input;
 mod label;
+mod lines;
 mod messages;
 mod named;
 mod printer;
@@ -14,12 +16,13 @@ mod program;
 mod shown;
 mod words;
 
-pub use fault::{Fault, Looks, OpenError, PrintError, looks_of};
+pub use console::{Console, Counter};
+pub use fault::{Fault, Looks, OpenError, PrintError, fault_words, looks_of};
 pub use files::Opener;
 pub use heading::{Headed, Heading, write_headed};
 pub use input::object_bytes;
 pub use label::word_label;
-pub use messages::{fault_words, say, tell_of_input};
+pub use messages::{say, tell_of_input};
 pub use named::read_named;
 pub use printer::{Asked, Printer};
 pub use program::{obey, refuse_memory, run, show_all};

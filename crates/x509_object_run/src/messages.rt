@@ -1,32 +1,19 @@
 //! Messages on standard error.
 
 ghost use Rattle.std.specs.List.{flat_map};
-ghost use Rattle.std.specs.Prelude.{◌≡◌, ◌++◌, [], codes};
+ghost use Rattle.std.specs.Fmt.{decimal};
+ghost use Rattle.std.specs.Prelude.{◌≡◌, ◌⊎◌, ◌++◌, [], IfOk, string_bytes};
 ghost use Rattle.x509_object_run.specs.Faults.{complaint, fault_text, short_complaint};
 ghost use Rattle.x509_object_run.specs.Labels.{label_of};
-ghost use Rattle.x509_object_run.specs.Program.{IsTold, Says};
+ghost use Rattle.x509_object_run.specs.Program.{IsTold, Says, progress};
 ghost use Rattle.x509_tool_run.specs.Answer.{as_line};
 ghost use Rattle.x509_tool_run.specs.Version.{version_text};
 ghost use Rattle.x509_object_run.specs.declared.fault.Fault.TheVariants.{Memory};
 
-use crate::fault::Fault;
 use crate::label::label_of;
 use crate::printer::Printer;
+use std::alloc::{AllocError, Global};
 use x509_tool_run::{Sink, VERSION, WriteError, write_texts};
-
-/// Why an input isn't shown, in words, where bytes that are no object are told so: two texts, one behind the other.
-pub fn fault_words(no_object: &'static [u8], fault: Fault) -> (&'static [u8], &'static [u8])
-    ensures { result.0.now ++ result.1.now ≡ fault_text no_object.now fault }
-{
-    match fault {
-        Fault::Unopened(e) => (e.text(), b""),
-        Fault::Unreadable => (b"can't be read", b""),
-        Fault::TooLong => (b"longer than 16777216 bytes", b""),
-        Fault::NoObject(looks) => (no_object, looks.text()),
-        Fault::Unwritten => (b"the output can't be written", b""),
-        Fault::Memory => (b"out of memory", b""),
-    }
-}
 
 /// Writes texts as one message, as far as they can be.
 fn tell_texts<E: Sink>(errors: &mut E, texts: &[&[u8]])
@@ -49,37 +36,46 @@ pub(crate) fn tell_misuse<'a, E: Sink>(
 }
 
 /// Tells of an input.
-fn complain_of<'a, E: Sink>(
+pub(crate) fn complain_of<'a, E: Sink>(
     errors: &mut E,
     program: &'a [u8],
     label: &'a [u8],
     what: &'a [u8],
-    more: &'a [u8],
 )
-    ensures { IsTold E.takes errors.old (complaint program.now label.now (what.now ++ more.now)) errors.new }
+    ensures { IsTold E.takes errors.old (complaint program.now label.now what.now) errors.new }
 {
-    tell_texts(errors, &[program, b": ", label, b": ", what, more, b"\n"]);
+    tell_texts(errors, &[program, b": ", label, b": ", what, b"\n"]);
 }
 
-/// Tells of the input of a name, as far as it can be told: two texts, one behind the other.
-pub fn tell_of_input<'a, E: Sink>(
-    errors: &mut E,
-    program: &'a [u8],
-    name: &'a str,
-    what: &'a [u8],
-    more: &'a [u8],
-)
-    ensures { IsTold E.takes errors.old (complaint program.now (label_of name.now) (what.now ++ more.now)) errors.new }
+/// Tells of the input of a name, as far as it can be told.
+pub fn tell_of_input<'a, E: Sink>(errors: &mut E, program: &'a [u8], name: &'a str, what: &'a [u8])
+    ensures { IsTold E.takes errors.old (complaint program.now (label_of name.now) what.now) errors.new }
 {
-    complain_of(errors, program, label_of(name).as_bytes(), what, more);
+    complain_of(errors, program, label_of(name).as_bytes(), what);
 }
 
-/// Tells why an input isn't shown.
-pub(crate) fn complain<P: Printer, E: Sink>(printer: &P, label: &[u8], fault: Fault, errors: &mut E)
-    ensures { IsTold E.takes errors.old (complaint P.program.name label.now (fault_text (P.subject printer.now).no_object fault)) errors.new }
+/// Tells of how many objects there are so far, unless there is no memory for that.
+pub(crate) fn tell_progress<P: Printer, E: Sink>(alloc: Global, count: u64, errors: &mut E)
+    ensures { IsTold E.takes errors.old (progress P.program.name count) errors.new ⊎ (errors.new ≡ errors.old) }
 {
-    let (what, more) = fault_words(printer.no_object(), fault);
-    complain_of(errors, P::name(), label, what, more);
+    match count_text(alloc, count) {
+        Ok(text) => tell_texts(
+            errors,
+            &[
+                P::name(),
+                b": ",
+                text.as_str().as_bytes(),
+                b" objects so far\n",
+            ],
+        ),
+        Err(AllocError) => {}
+    }
+}
+
+fn count_text(alloc: Global, count: u64) -> Result<String, AllocError>
+    ensures { IfOk result (λ text. string_bytes text ≡ decimal count) }
+{
+    format!(in alloc; "{count}")
 }
 
 /// Tells what no input is at fault for.

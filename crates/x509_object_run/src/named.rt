@@ -1,14 +1,14 @@
 //! Reading the input of a name.
 
-ghost use Rattle.std.specs.Prelude.{◌≡◌, ℕ, Ok, Err, List, MatchResult, map};
+ghost use Rattle.std.specs.Prelude.{◌≡◌, ℕ, Ok, Err, List, MatchResult};
 ghost use Rattle.x509_object_run.specs.Labels.{is_standard};
-ghost use Rattle.x509_object_run.specs.Object.{fault_of, input_objects, object_bytes, unread_fault};
-ghost use Rattle.x509_object_run.specs.Program.{IsFileRead, IsFileReadAs, IsNamedRead, IsNamedReadAs, IsSourceRead, IsSourceReadAs};
+ghost use Rattle.x509_object_run.specs.Object.{fault_of, object_bytes, unread_fault};
+ghost use Rattle.x509_object_run.specs.Program.{IsFileRead, IsNamedRead, IsSourceRead};
 ghost use Rattle.x509_tool_run.specs.Input.{Input, IsRead, Whole};
 
 use crate::fault::{Fault, OpenError};
 use crate::files::Opener;
-use crate::input::{input_objects, object_bytes};
+use crate::input::object_bytes;
 use crate::label::is_standard;
 use std::alloc::{AllocError, Global};
 use x509_der::ErrorKind;
@@ -34,21 +34,6 @@ fn read_object<R: Source>(alloc: Global, reader: &mut R) -> Result<Vec<u8>, Faul
     match read_input(alloc, reader) {
         Ok(input) => match object_bytes(alloc, input) {
             Ok(bytes) => Ok(bytes),
-            Err(AllocError) => Err(Fault::Memory),
-        },
-        Err(refusal) => Err(fault_of(refusal)),
-    }
-}
-
-/// Reads an input, and answers its objects.
-fn read_objects<R: Source>(alloc: Global, reader: &mut R) -> Result<Vec<Vec<u8>>, Fault>
-    ensures { MatchResult result
-        (λ objects. IsSourceReadAs input_objects R.gives reader.old reader.new (Ok (map (λ object. object.items) objects.items)))
-        (λ fault. IsSourceReadAs input_objects R.gives reader.old reader.new (Err fault)) }
-{
-    match read_input(alloc, reader) {
-        Ok(input) => match input_objects(alloc, input) {
-            Ok(objects) => Ok(objects),
             Err(AllocError) => Err(Fault::Memory),
         },
         Err(refusal) => Err(fault_of(refusal)),
@@ -96,37 +81,4 @@ pub fn read_named<R: Source, F: Source + Drop, O: Opener<F>>(
         return read_source(alloc, reader);
     }
     read_file(alloc, opener.open(name))
-}
-
-/// Reads the file that was opened, and answers its objects.
-fn read_file_objects<F: Source + Drop>(
-    alloc: Global,
-    opened: Result<F, OpenError>,
-) -> Result<Vec<Vec<u8>>, Fault>
-    ensures { MatchResult result
-        (λ objects. IsFileReadAs input_objects F.gives opened (Ok (map (λ object. object.items) objects.items)))
-        (λ fault. IsFileReadAs input_objects F.gives opened (Err fault)) }
-{
-    match opened {
-        Ok(mut file) => read_objects(alloc, &mut file),
-        Err(e) => Err(Fault::Unopened(e)),
-    }
-}
-
-/// Reads the input of a name, which is standard input or a file, and answers its objects.
-pub(crate) fn read_named_objects<R: Source, F: Source + Drop, O: Opener<F>>(
-    alloc: Global,
-    name: &str,
-    opener: &O,
-    reader: &mut R,
-) -> Result<Vec<Vec<u8>>, Fault>
-    ensures { MatchResult result
-        (λ objects. IsNamedReadAs input_objects R.gives (O.opens opener.now) F.gives (is_standard name.now) name.now reader.old reader.new
-        (Ok (map (λ object. object.items) objects.items)))
-        (λ fault. IsNamedReadAs input_objects R.gives (O.opens opener.now) F.gives (is_standard name.now) name.now reader.old reader.new (Err fault)) }
-{
-    if is_standard(name) {
-        return read_objects(alloc, reader);
-    }
-    read_file_objects(alloc, opener.open(name))
 }

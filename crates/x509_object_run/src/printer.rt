@@ -24,7 +24,7 @@ pub trait Printer: Sized + Drop {
         ensures { result.now ≡ program.name };
 
     /// How it is told that bytes are no object of the kind that is asked for.
-    fn no_object(&self) -> &'static [u8]
+    fn no_object(&self) -> &'static str
         ensures { result.now ≡ (subject self.now).no_object };
 
     /// What stands above what is printed of an input, where there are several or there is one.

@@ -6,6 +6,7 @@ ghost use Rattle.x509_object_run.specs.Program.{AreDone, IsRun, IsTold, IsUnkept
 ghost use Rattle.x509_object_run.specs.Words.{inputs_of};
 ghost use Rattle.x509_object_run.specs.declared.fault.Fault.TheVariants.{Memory};
 
+use crate::console::Console;
 use crate::files::Opener;
 use crate::messages::{complain_of_memory, say, say_version, tell_misuse};
 use crate::printer::{Asked, Printer};
@@ -30,7 +31,7 @@ fn inputs_of<'a, 'b>(names: &'a [&'b str]) -> &'a [&'b str]
 }
 
 /// Shows inputs, and answers the greatest of their statuses.
-fn show_inputs<P: Printer, R: Source, F: Source + Drop, O: Opener<F>, W: Sink, E: Sink>(
+fn show_inputs<P: Printer, R: Source, F: Source + Drop, O: Opener<F>, W: Sink, E: Console>(
     alloc: Global,
     printer: &P,
     inputs: &[&str],
@@ -39,7 +40,7 @@ fn show_inputs<P: Printer, R: Source, F: Source + Drop, O: Opener<F>, W: Sink, E
     writer: &mut W,
     errors: &mut E,
 ) -> u8
-    ensures { AreDone P.program.name (P.subject printer.now) (world_of R.gives (O.opens opener.now) F.gives W.takes E.takes)
+    ensures { AreDone P.program.name (P.subject printer.now) (world_of R.gives (O.opens opener.now) F.gives W.takes E.takes E.counts)
         (are_headed (P.subject printer.now) (map (λ name. name.now) inputs.now)) (map (λ name. name.now) inputs.now)
         (streams reader.old writer.old errors.old) (streams reader.new writer.new errors.new) result }
 {
@@ -50,7 +51,7 @@ fn show_inputs<P: Printer, R: Source, F: Source + Drop, O: Opener<F>, W: Sink, E
 }
 
 /// Shows the inputs that are named, or standard input where none is, and answers the greatest of their statuses.
-pub fn show_all<P: Printer, R: Source, F: Source + Drop, O: Opener<F>, W: Sink, E: Sink>(
+pub fn show_all<P: Printer, R: Source, F: Source + Drop, O: Opener<F>, W: Sink, E: Console>(
     alloc: Global,
     printer: &P,
     names: &[&str],
@@ -59,7 +60,7 @@ pub fn show_all<P: Printer, R: Source, F: Source + Drop, O: Opener<F>, W: Sink, 
     writer: &mut W,
     errors: &mut E,
 ) -> u8
-    ensures { AreDone P.program.name (P.subject printer.now) (world_of R.gives (O.opens opener.now) F.gives W.takes E.takes)
+    ensures { AreDone P.program.name (P.subject printer.now) (world_of R.gives (O.opens opener.now) F.gives W.takes E.takes E.counts)
         (are_headed (P.subject printer.now) (inputs_of (map (λ name. name.now) names.now))) (inputs_of (map (λ name. name.now) names.now))
         (streams reader.old writer.old errors.old) (streams reader.new writer.new errors.new) result }
 {
@@ -75,7 +76,7 @@ pub fn show_all<P: Printer, R: Source, F: Source + Drop, O: Opener<F>, W: Sink, 
 }
 
 /// Does what options and names ask for, as [`run`] does.
-pub fn obey<P: Asked, R: Source, F: Source + Drop, O: Opener<F>, W: Sink, E: Sink>(
+pub fn obey<P: Asked, R: Source, F: Source + Drop, O: Opener<F>, W: Sink, E: Console>(
     alloc: Global,
     options: &[&str],
     names: &[&str],
@@ -84,7 +85,7 @@ pub fn obey<P: Asked, R: Source, F: Source + Drop, O: Opener<F>, W: Sink, E: Sin
     writer: &mut W,
     errors: &mut E,
 ) -> u8
-    ensures { IsRun P.program P.subject (world_of R.gives (O.opens opener.now) F.gives W.takes E.takes)
+    ensures { IsRun P.program P.subject (world_of R.gives (O.opens opener.now) F.gives W.takes E.takes E.counts)
         (call_from P.asked P.misuse (map (λ option. option.now) options.now) (map (λ name. name.now) names.now))
         (streams reader.old writer.old errors.old) (streams reader.new writer.new errors.new) result }
 {
@@ -108,7 +109,7 @@ pub fn obey<P: Asked, R: Source, F: Source + Drop, O: Opener<F>, W: Sink, E: Sin
 
 /// Does what the words ask for: shows the inputs that they name, or standard input, and answers the greatest of their statuses; or says
 /// how the program is called, what it does, or its version.
-pub fn run<P: Asked, R: Source, F: Source + Drop, O: Opener<F>, W: Sink, E: Sink>(
+pub fn run<P: Asked, R: Source, F: Source + Drop, O: Opener<F>, W: Sink, E: Console>(
     alloc: Global,
     words: &[String],
     opener: &O,
@@ -116,7 +117,7 @@ pub fn run<P: Asked, R: Source, F: Source + Drop, O: Opener<F>, W: Sink, E: Sink
     writer: &mut W,
     errors: &mut E,
 ) -> u8
-    ensures { IsRun P.program P.subject (world_of R.gives (O.opens opener.now) F.gives W.takes E.takes)
+    ensures { IsRun P.program P.subject (world_of R.gives (O.opens opener.now) F.gives W.takes E.takes E.counts)
         (call_of P.asked P.misuse (map string_bytes words.now)) (streams reader.old writer.old errors.old) (streams reader.new writer.new errors.new) result
         ⊎ IsUnkept P.program E.takes (streams reader.old writer.old errors.old) (streams reader.new writer.new errors.new) result }
 {

@@ -1,17 +1,19 @@
 //! What is printed of an input.
 
-ghost use Rattle.std.specs.Option.{option_map};
-ghost use Rattle.std.specs.Prelude.{◌≡◌, ℕ, Some, map, max};
-ghost use Rattle.x509_object_run.specs.Labels.{label_of};
-ghost use Rattle.x509_object_run.specs.Object.{AreShown, heading_for, one_of};
-ghost use Rattle.x509_object_run.specs.Program.{AreDone, AreNumberedDone, AreObjectsDone, IsDone, IsNumberedDone, IsObjectDone, IsRefused, IsTold, outputs, streams, world_of, writes};
+ghost use Rattle.std.specs.Prelude.{◌≡◌, ℕ, [], IfOk, Option, map, max, string_bytes};
+ghost use Rattle.std.specs.Result.{result_map_both};
+ghost use Rattle.x509_object_run.specs.Faults.{complaint, fault_text};
+ghost use Rattle.x509_object_run.specs.Object.{AreShown, heading_for};
+ghost use Rattle.x509_object_run.specs.Program.{AreDone, IsCalledDone, IsCounted, IsDone, IsFileDone, IsItemDone, IsItemShown, IsObjectDone, IsRefused, IsTold, outputs, streams, world_of, writes};
+ghost use Rattle.x509_object_run.specs.declared.fault.Fault.TheVariants.{Memory};
 
-use crate::fault::{Fault, PrintError, looks_of};
+use crate::console::Console;
+use crate::fault::{Fault, OpenError, PrintError, fault_words, looks_of};
 use crate::files::Opener;
 use crate::heading::{Headed, heading_of};
-use crate::label::{label_of, numbered};
-use crate::messages::complain;
-use crate::named::read_named_objects;
+use crate::label::{is_standard, label_of, numbered};
+use crate::lines::do_source;
+use crate::messages::{complain_of, tell_progress};
 use crate::printer::Printer;
 use std::alloc::{AllocError, Global};
 use x509_tool_run::{Sink, Source, write_text};
@@ -42,8 +44,24 @@ fn try_write<W: Sink>(text: &[u8], writer: &mut W)
     let _ = write_text(writer, text);
 }
 
+/// What is printed where nothing whole is, and what is told.
+fn refusal_of<P: Printer>(
+    alloc: Global,
+    printer: &P,
+    headed: Headed,
+    label: &str,
+    fault: Fault,
+) -> Result<(Vec<u8>, String), AllocError>
+    ensures printed { IfOk result (λ refusal. refusal.0.items ≡ (P.subject printer.now).refused (heading_for headed label.now) fault) }
+    ensures told { IfOk result (λ refusal. string_bytes refusal.1 ≡ fault_text (P.subject printer.now).no_object fault) }
+{
+    let text = printer.refused(alloc, heading_of(headed, label), fault)?;
+    let words = fault_words(alloc, printer.no_object(), fault)?;
+    Ok((text, words))
+}
+
 /// Prints and tells why nothing whole is printed.
-fn refuse<P: Printer, W: Sink, E: Sink>(
+pub(crate) fn refuse<P: Printer, W: Sink, E: Sink>(
     alloc: Global,
     printer: &P,
     headed: Headed,
@@ -52,20 +70,32 @@ fn refuse<P: Printer, W: Sink, E: Sink>(
     writer: &mut W,
     errors: &mut E,
 )
-    ensures { IsRefused P.program.name (P.subject printer.now) (writes W.takes E.takes) headed label.now fault
+    ensures { IsRefused P.program.name (P.subject printer.now) W.takes E.takes headed label.now fault
         (outputs writer.old errors.old) (outputs writer.new errors.new) }
 {
-    match printer.refused(alloc, heading_of(headed, label), fault) {
-        Ok(text) => {
+    match refusal_of(alloc, printer, headed, label, fault) {
+        Ok((text, words)) => {
             try_write(text.as_slice(), writer);
-            complain(printer, label.as_bytes(), fault, errors);
+            complain_of(
+                errors,
+                P::name(),
+                label.as_bytes(),
+                words.as_str().as_bytes(),
+            );
         }
-        Err(AllocError) => complain(printer, label.as_bytes(), Fault::Memory, errors),
+        Err(AllocError) => forget::<P, E>(label, errors),
     }
 }
 
+/// Tells that there is no memory for what is told of an input.
+fn forget<P: Printer, E: Sink>(label: &str, errors: &mut E)
+    ensures { IsTold E.takes errors.old (complaint P.program.name label.now (fault_text [] Memory)) errors.new }
+{
+    complain_of(errors, P::name(), label.as_bytes(), b"out of memory");
+}
+
 /// Writes what is printed of the bytes of an object or tells why nothing is, and answers the status.
-fn do_object<P: Printer, W: Sink, E: Sink>(
+fn do_object<P: Printer, W: Sink, E: Console>(
     alloc: Global,
     printer: &P,
     headed: Headed,
@@ -74,7 +104,7 @@ fn do_object<P: Printer, W: Sink, E: Sink>(
     writer: &mut W,
     errors: &mut E,
 ) -> u8
-    ensures { IsObjectDone P.program.name (P.subject printer.now) (writes W.takes E.takes) headed label.now bytes.now
+    ensures { IsObjectDone P.program.name (P.subject printer.now) (writes W.takes E.takes E.counts) headed label.now bytes.now
         (outputs writer.old errors.old) (outputs writer.new errors.new) result }
 {
     match show_bytes(alloc, printer, headed, label, bytes, writer) {
@@ -86,100 +116,126 @@ fn do_object<P: Printer, W: Sink, E: Sink>(
     }
 }
 
-/// Does so for that with this number of an input of several.
-fn do_numbered<P: Printer, W: Sink, E: Sink>(
+/// Counts an object, and tells of how many there are where it is time.
+fn note<P: Printer, E: Console>(alloc: Global, errors: &mut E)
+    ensures { (middle : E) × (due : Option ℕ) × E.counts errors.old due middle × IsCounted P.program.name E.takes due middle errors.new }
+{
+    match errors.count() {
+        Some(count) => tell_progress::<P, E>(alloc, count, errors),
+        None => {}
+    }
+}
+
+/// Writes what is printed of an object or tells why nothing is, and answers the status.
+fn show_item<P: Printer, W: Sink, E: Console>(
     alloc: Global,
     printer: &P,
+    headed: Headed,
     label: &str,
-    number: usize,
-    bytes: &[u8],
+    item: Result<Vec<u8>, Fault>,
     writer: &mut W,
     errors: &mut E,
 ) -> u8
-    ensures { IsNumberedDone P.program.name (P.subject printer.now) (writes W.takes E.takes) label.now number bytes.now
-        (outputs writer.old errors.old) (outputs writer.new errors.new) result }
+    ensures { IsItemShown P.program.name (P.subject printer.now) (writes W.takes E.takes E.counts) headed label.now
+        (result_map_both (λ bytes. bytes.items) (λ fault. fault) item) (outputs writer.old errors.old) (outputs writer.new errors.new) result }
 {
-    match numbered(alloc, label, number) {
-        Ok(numbered) => {
-            let headed = printer.headed(true);
-            do_object(
-                alloc,
-                printer,
-                headed,
-                numbered.as_str(),
-                bytes,
-                writer,
-                errors,
-            )
-        }
-        Err(AllocError) => {
-            complain(printer, label.as_bytes(), Fault::Memory, errors);
+    match item {
+        Ok(bytes) => do_object(
+            alloc,
+            printer,
+            headed,
+            label,
+            bytes.as_slice(),
+            writer,
+            errors,
+        ),
+        Err(fault) => {
+            refuse(alloc, printer, headed, label, fault, writer, errors);
             2
         }
     }
 }
 
-/// Does so for the objects of an input of several, one after the other, and answers the greatest status.
-fn do_several<P: Printer, W: Sink, E: Sink>(
-    alloc: Global,
-    printer: &P,
-    label: &str,
-    objects: &[Vec<u8>],
-    writer: &mut W,
-    errors: &mut E,
-) -> u8
-    ensures { AreNumberedDone P.program.name (P.subject printer.now) (writes W.takes E.takes) label.now 0 (map (λ object. object.items) objects.now)
-        (outputs writer.old errors.old) (outputs writer.new errors.new) result }
-{
-    let mut worst = 0u8;
-    let mut number = 0usize;
-    for bytes in objects {
-        number += 1;
-        let status = do_numbered(
-            alloc,
-            printer,
-            label,
-            number,
-            bytes.as_slice(),
-            writer,
-            errors,
-        );
-        worst = greater_of(worst, status);
-    }
-    worst
-}
-
-/// The one object, where there is one.
-fn one_of(objects: &[Vec<u8>]) -> Option<&[u8]>
-    ensures { option_map (λ object. object.now) result ≡ one_of (Some (map (λ object. object.items) objects.now)) }
-{
-    match objects {
-        [bytes] => Some(bytes.as_slice()),
-        _ => None,
-    }
-}
-
-/// Does so for the objects of an input.
-fn do_objects<P: Printer, W: Sink, E: Sink>(
+/// Does so, and counts it.
+pub(crate) fn do_item<P: Printer, W: Sink, E: Console>(
     alloc: Global,
     printer: &P,
     headed: Headed,
     label: &str,
-    objects: &[Vec<u8>],
+    item: Result<Vec<u8>, Fault>,
     writer: &mut W,
     errors: &mut E,
 ) -> u8
-    ensures { AreObjectsDone P.program.name (P.subject printer.now) (writes W.takes E.takes) headed label.now (map (λ object. object.items) objects.now)
+    ensures { IsItemDone P.program.name (P.subject printer.now) (writes W.takes E.takes E.counts) headed label.now
+        (result_map_both (λ bytes. bytes.items) (λ fault. fault) item) (outputs writer.old errors.old) (outputs writer.new errors.new) result }
+{
+    let status = show_item(alloc, printer, headed, label, item, writer, errors);
+    note::<P, E>(alloc, errors);
+    status
+}
+
+/// Does so for that with this number of an input of several.
+pub(crate) fn do_numbered<P: Printer, W: Sink, E: Console>(
+    alloc: Global,
+    printer: &P,
+    label: &str,
+    number: usize,
+    item: Result<Vec<u8>, Fault>,
+    writer: &mut W,
+    errors: &mut E,
+) -> u8
+    ensures { IsCalledDone P.program.name (P.subject printer.now) (writes W.takes E.takes E.counts) label.now number
+        (result_map_both (λ bytes. bytes.items) (λ fault. fault) item) (outputs writer.old errors.old) (outputs writer.new errors.new) result }
+{
+    match numbered(alloc, label, number) {
+        Ok(numbered) => {
+            let headed = printer.headed(true);
+            do_item(
+                alloc,
+                printer,
+                headed,
+                numbered.as_str(),
+                item,
+                writer,
+                errors,
+            )
+        }
+        Err(AllocError) => {
+            forget::<P, E>(label, errors);
+            2
+        }
+    }
+}
+
+/// Reads the file that was opened, writes what is printed of it or tells why nothing is, and answers the status.
+fn do_file<P: Printer, F: Source + Drop, W: Sink, E: Console>(
+    alloc: Global,
+    printer: &P,
+    headed: Headed,
+    label: &str,
+    opened: Result<F, OpenError>,
+    writer: &mut W,
+    errors: &mut E,
+) -> u8
+    ensures { IsFileDone P.program.name (P.subject printer.now) (writes W.takes E.takes E.counts) F.gives headed label.now opened
         (outputs writer.old errors.old) (outputs writer.new errors.new) result }
 {
-    match one_of(objects) {
-        Some(bytes) => do_object(alloc, printer, headed, label, bytes, writer, errors),
-        None => do_several(alloc, printer, label, objects, writer, errors),
+    match opened {
+        Ok(mut file) => do_source(alloc, printer, headed, label, &mut file, writer, errors),
+        Err(e) => do_item(
+            alloc,
+            printer,
+            headed,
+            label,
+            Err(Fault::Unopened(e)),
+            writer,
+            errors,
+        ),
     }
 }
 
 /// Reads the input of a name, writes what is printed of it or tells why nothing is, and answers the status.
-fn do_one<P: Printer, R: Source, F: Source + Drop, O: Opener<F>, W: Sink, E: Sink>(
+fn do_one<P: Printer, R: Source, F: Source + Drop, O: Opener<F>, W: Sink, E: Console>(
     alloc: Global,
     printer: &P,
     headed: Headed,
@@ -189,30 +245,32 @@ fn do_one<P: Printer, R: Source, F: Source + Drop, O: Opener<F>, W: Sink, E: Sin
     writer: &mut W,
     errors: &mut E,
 ) -> u8
-    ensures { IsDone P.program.name (P.subject printer.now) (world_of R.gives (O.opens opener.now) F.gives W.takes E.takes) headed name.now
+    ensures { IsDone P.program.name (P.subject printer.now) (world_of R.gives (O.opens opener.now) F.gives W.takes E.takes E.counts) headed name.now
         (streams reader.old writer.old errors.old) (streams reader.new writer.new errors.new) result }
 {
     let label = label_of(name);
-    match read_named_objects::<R, F, O>(alloc, name, opener, reader) {
-        Ok(objects) => {
-            let objects = objects.as_slice();
-            do_objects(alloc, printer, headed, label, objects, writer, errors)
-        }
-        Err(fault) => {
-            refuse(alloc, printer, headed, label, fault, writer, errors);
-            2
-        }
+    if is_standard(name) {
+        return do_source(alloc, printer, headed, label, reader, writer, errors);
     }
+    do_file(
+        alloc,
+        printer,
+        headed,
+        label,
+        opener.open(name),
+        writer,
+        errors,
+    )
 }
 
-fn greater_of(first: u8, second: u8) -> u8
+pub(crate) fn greater_of(first: u8, second: u8) -> u8
     ensures { result ≡ max first second }
 {
     if first < second { second } else { first }
 }
 
 /// Does so for inputs one after the other, and answers the greatest status.
-pub(crate) fn do_all<P: Printer, R: Source, F: Source + Drop, O: Opener<F>, W: Sink, E: Sink>(
+pub(crate) fn do_all<P: Printer, R: Source, F: Source + Drop, O: Opener<F>, W: Sink, E: Console>(
     alloc: Global,
     printer: &P,
     headed: Headed,
@@ -222,7 +280,7 @@ pub(crate) fn do_all<P: Printer, R: Source, F: Source + Drop, O: Opener<F>, W: S
     writer: &mut W,
     errors: &mut E,
 ) -> u8
-    ensures { AreDone P.program.name (P.subject printer.now) (world_of R.gives (O.opens opener.now) F.gives W.takes E.takes) headed
+    ensures { AreDone P.program.name (P.subject printer.now) (world_of R.gives (O.opens opener.now) F.gives W.takes E.takes E.counts) headed
         (map (λ name. name.now) names.now) (streams reader.old writer.old errors.old) (streams reader.new writer.new errors.new) result }
 {
     let mut worst = 0u8;

@@ -195,10 +195,11 @@ IsNamedWritten gives opens file_gives takes name issuer from to old new result =
 
 -- ---- a run
 
--- it is told why the input of a name is refused, with status 2
+-- it is told why the input of a name is refused, or that there is no memory for that, with status 2
 abbrev pub IsRefused : {E : Type 0} → List ℕ → Reason → Steps E → E → E → ℕ → Type 0
 IsRefused name e takes_errors old new status =
-    IsTold takes_errors old (complaint program.name (label_of name) (reason_text e)) new × (status ≡ 2)
+    (IsTold takes_errors old (complaint program.name (label_of name) (reason_text e)) new
+    ⊎ IsTold takes_errors old (complaint program.name (label_of name) (reason_text (Fault Memory))) new) × (status ≡ 2)
 
 abbrev pub IsEnded : {E : Type 0} → List ℕ → Result Unit Reason → Steps E → E → E → ℕ → Type 0
 IsEnded name (Ok u) takes_errors old new status = (new ≡ old) × (status ≡ 0)

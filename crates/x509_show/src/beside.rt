@@ -14,7 +14,7 @@ use std::alloc::{AllocError, Global};
 use x509_base::Raw;
 use x509_check::CertificateRef;
 use x509_object_run::{
-    Fault, Opener, looks_of, obey, read_named, refuse_memory, split, tell_of_input,
+    Console, Fault, Opener, looks_of, obey, read_named, refuse_memory, split, tell_of_input,
 };
 use x509_tool_run::{Sink, Source};
 
@@ -52,11 +52,13 @@ fn beside_of<'b>(options: &[&str], names: &[&'b str]) -> Option<(&'b str, &'b st
 }
 
 /// Tells why the input of a name is refused, and answers the status.
-fn refuse<E: Sink>(name: &str, reason: Reason, errors: &mut E) -> u8
+fn refuse<E: Sink>(alloc: Global, name: &str, reason: Reason, errors: &mut E) -> u8
     ensures { IsRefused name.now reason E.takes errors.old errors.new result }
 {
-    let (what, more) = reason_words(reason);
-    tell_of_input(errors, b"x509_show", name, what, more);
+    match reason_words(alloc, reason) {
+        Ok(words) => tell_of_input(errors, b"x509_show", name, words.as_str().as_bytes()),
+        Err(AllocError) => tell_of_input(errors, b"x509_show", name, b"out of memory"),
+    }
     2
 }
 
@@ -78,7 +80,7 @@ fn write_named<R: Source, F: Source + Drop, O: Opener<F>, W: Sink>(
 }
 
 /// Reads the input of a name, writes the lines of its SCTs or tells why not, and answers the status.
-fn show_below<R: Source, F: Source + Drop, O: Opener<F>, W: Sink, E: Sink>(
+fn show_below<R: Source, F: Source + Drop, O: Opener<F>, W: Sink, E: Console>(
     alloc: Global,
     issuer: &str,
     above: &[u8],
@@ -88,11 +90,12 @@ fn show_below<R: Source, F: Source + Drop, O: Opener<F>, W: Sink, E: Sink>(
     writer: &mut W,
     errors: &mut E,
 ) -> u8
-    ensures { IsBelow (world_of R.gives (O.opens opener.now) F.gives W.takes E.takes) issuer.now name.now above.now
+    ensures { IsBelow (world_of R.gives (O.opens opener.now) F.gives W.takes E.takes E.counts) issuer.now name.now above.now
         (streams reader.old writer.old errors.old) (streams reader.new writer.new errors.new) result }
 {
     let Ok(certificate) = CertificateRef::<Raw>::from_der(above) else {
         return refuse(
+            alloc,
             issuer,
             Reason::Fault(Fault::NoObject(looks_of(above))),
             errors,
@@ -100,12 +103,12 @@ fn show_below<R: Source, F: Source + Drop, O: Opener<F>, W: Sink, E: Sink>(
     };
     match write_named(alloc, &certificate, name, opener, reader, writer) {
         Ok(()) => 0,
-        Err(reason) => refuse(name, reason, errors),
+        Err(reason) => refuse(alloc, name, reason, errors),
     }
 }
 
 /// Reads an issuer, and then a certificate, whose SCTs it shows.
-fn show_beside<R: Source, F: Source + Drop, O: Opener<F>, W: Sink, E: Sink>(
+fn show_beside<R: Source, F: Source + Drop, O: Opener<F>, W: Sink, E: Console>(
     alloc: Global,
     issuer: &str,
     name: &str,
@@ -114,7 +117,7 @@ fn show_beside<R: Source, F: Source + Drop, O: Opener<F>, W: Sink, E: Sink>(
     writer: &mut W,
     errors: &mut E,
 ) -> u8
-    ensures { IsShownBeside (world_of R.gives (O.opens opener.now) F.gives W.takes E.takes) issuer.now name.now
+    ensures { IsShownBeside (world_of R.gives (O.opens opener.now) F.gives W.takes E.takes E.counts) issuer.now name.now
         (streams reader.old writer.old errors.old) (streams reader.new writer.new errors.new) result }
 {
     match read_named(alloc, issuer, opener, reader) {
@@ -128,12 +131,12 @@ fn show_beside<R: Source, F: Source + Drop, O: Opener<F>, W: Sink, E: Sink>(
             writer,
             errors,
         ),
-        Err(fault) => refuse(issuer, Reason::Fault(fault), errors),
+        Err(fault) => refuse(alloc, issuer, Reason::Fault(fault), errors),
     }
 }
 
 /// Does what options and names ask for.
-fn do_asked<R: Source, F: Source + Drop, O: Opener<F>, W: Sink, E: Sink>(
+fn do_asked<R: Source, F: Source + Drop, O: Opener<F>, W: Sink, E: Console>(
     alloc: Global,
     options: &[&str],
     names: &[&str],
@@ -142,7 +145,7 @@ fn do_asked<R: Source, F: Source + Drop, O: Opener<F>, W: Sink, E: Sink>(
     writer: &mut W,
     errors: &mut E,
 ) -> u8
-    ensures { IsObeyed (world_of R.gives (O.opens opener.now) F.gives W.takes E.takes)
+    ensures { IsObeyed (world_of R.gives (O.opens opener.now) F.gives W.takes E.takes E.counts)
         (map (λ option. option.now) options.now) (map (λ name. name.now) names.now)
         (streams reader.old writer.old errors.old) (streams reader.new writer.new errors.new) result }
 {
@@ -154,7 +157,7 @@ fn do_asked<R: Source, F: Source + Drop, O: Opener<F>, W: Sink, E: Sink>(
 
 /// Does what the words ask for: shows inputs, or what the SCTs of a certificate are signatures of; or says how the program is called, what it does, or
 /// its version.
-pub(crate) fn show<R: Source, F: Source + Drop, O: Opener<F>, W: Sink, E: Sink>(
+pub(crate) fn show<R: Source, F: Source + Drop, O: Opener<F>, W: Sink, E: Console>(
     alloc: Global,
     words: &[String],
     opener: &O,
@@ -162,7 +165,7 @@ pub(crate) fn show<R: Source, F: Source + Drop, O: Opener<F>, W: Sink, E: Sink>(
     writer: &mut W,
     errors: &mut E,
 ) -> u8
-    ensures { IsObeyed (world_of R.gives (O.opens opener.now) F.gives W.takes E.takes)
+    ensures { IsObeyed (world_of R.gives (O.opens opener.now) F.gives W.takes E.takes E.counts)
         (options_of (map string_bytes words.now)) (names_of (map string_bytes words.now))
         (streams reader.old writer.old errors.old) (streams reader.new writer.new errors.new) result
         ⊎ IsUnkept program E.takes (streams reader.old writer.old errors.old) (streams reader.new writer.new errors.new) result }

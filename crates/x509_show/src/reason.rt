@@ -1,11 +1,11 @@
 //! Why not all is written that the SCTs of a certificate are signatures of.
 
-ghost use Rattle.std.specs.Prelude.{◌≡◌, ◌++◌};
+ghost use Rattle.std.specs.Prelude.{◌≡◌, IfOk, string_bytes};
 ghost use Rattle.x509_object_run.specs.declared.fault.Fault.TheVariants.{Memory};
 ghost use Rattle.x509_show.specs.Timestamps.{reason_of, reason_text};
 ghost use Rattle.x509_show.specs.declared.reason.Reason.TheVariants as reasons;
 
-use std::alloc::AllocError;
+use std::alloc::{AllocError, Global};
 use x509_der::ErrorKind;
 use x509_log::LogError;
 use x509_object_run::{Fault, fault_words};
@@ -54,15 +54,22 @@ pub(crate) fn reason_of(e: LogError) -> Reason
     }
 }
 
-/// A reason in words: two texts, one behind the other.
-pub(crate) fn reason_words(reason: Reason) -> (&'static [u8], &'static [u8])
-    ensures { result.0.now ++ result.1.now ≡ reason_text reason }
+/// A reason in words.
+///
+/// # Errors
+///
+/// `AllocError` when out of memory.
+pub(crate) fn reason_words(alloc: Global, reason: Reason) -> Result<String, AllocError>
+    ensures { IfOk result (λ words. string_bytes words ≡ reason_text reason) }
 {
-    match reason {
-        Reason::Fault(fault) => fault_words(b"not a certificate in DER, PEM or hex", fault),
-        Reason::Absent => (b"it has no list of SCTs", b""),
-        Reason::Repeated => (b"it has two lists of SCTs or more", b""),
-        Reason::Undecodable => (b"its list of SCTs can't be decoded", b""),
-        Reason::TooLong => (b"its TBSCertificate has more than 16777215 bytes", b""),
-    }
+    let words = match reason {
+        Reason::Fault(fault) => {
+            return fault_words(alloc, "not a certificate in DER, PEM or hex", fault);
+        }
+        Reason::Absent => "it has no list of SCTs",
+        Reason::Repeated => "it has two lists of SCTs or more",
+        Reason::Undecodable => "its list of SCTs can't be decoded",
+        Reason::TooLong => "its TBSCertificate has more than 16777215 bytes",
+    };
+    String::from_str(alloc, words)
 }

@@ -82,15 +82,15 @@ fn asked_of<'a, 'b>(style: Style, names: &'a [&'b str]) -> (Show, &'a [&'b str])
 }
 
 /// How it is told that bytes are the encoding of no object of this kind, or of none at all.
-fn no_object(kind: Option<Kind>) -> &'static [u8]
+fn no_object(kind: Option<Kind>) -> &'static str
     ensures { result.now ≡ no_object kind }
 {
     match kind {
-        None => b"not a certificate, CRL, CSR or trust anchor in DER, PEM or hex",
-        Some(Kind::Certificate) => b"not a certificate in DER, PEM or hex",
-        Some(Kind::Crl) => b"not a CRL in DER, PEM or hex",
-        Some(Kind::Csr) => b"not a CSR in DER, PEM or hex",
-        Some(Kind::Anchor) => b"not a trust anchor in DER, PEM or hex",
+        None => "not a certificate, CRL, CSR or trust anchor in DER, PEM or hex",
+        Some(Kind::Certificate) => "not a certificate in DER, PEM or hex",
+        Some(Kind::Crl) => "not a CRL in DER, PEM or hex",
+        Some(Kind::Csr) => "not a CSR in DER, PEM or hex",
+        Some(Kind::Anchor) => "not a trust anchor in DER, PEM or hex",
     }
 }
 
@@ -146,7 +146,7 @@ impl Printer for Show {
         b"x509_show"
     }
 
-    fn no_object(&self) -> &'static [u8] {
+    fn no_object(&self) -> &'static str {
         no_object(self.kind)
     }
 

@@ -3,6 +3,7 @@ pub mod Command
 pub mod Input
 pub mod Answer
 pub mod Pem
+pub mod Scan
 pub mod Path
 pub mod Program
 pub mod Words

@@ -13,6 +13,7 @@ mod path;
 mod pem;
 mod program;
 mod refusal;
+mod scan;
 mod version;
 
 pub use arguments::{Arguments, words};
@@ -20,7 +21,8 @@ pub use command::{Command, Kind, path_asked};
 pub use information::Information;
 pub use input::{INPUT_LIMIT, READ_LIMIT, ReadError, Source, read_input};
 pub use output::{Sink, WriteError, write_text, write_texts};
-pub use pem::pem_objects;
+pub use pem::{ends_line, pem_objects};
 pub use program::{bytes_of, refuse_memory, run};
 pub use refusal::Refusal;
+pub use scan::{Broken, Scan, Stage};
 pub use version::VERSION;

@@ -16,7 +16,7 @@ use std::alloc::{AllocError, Global};
 
 /// Why a text stands for no bytes.
 #[derive(Clone, Copy, Debug, PartialEq, Eq)]
-enum Unread {
+pub(crate) enum Unread {
     /// It is no base64.
     Malformed,
 
@@ -31,28 +31,28 @@ fn is_binary(byte: u8) -> bool
     byte.is_ascii_control() && !byte.is_ascii_whitespace()
 }
 
-fn has_binary(input: &[u8]) -> bool
+pub(crate) fn has_binary(input: &[u8]) -> bool
     ensures { result ≡ list_any is_binary input.now }
 {
     input.iter().any(|byte| is_binary(*byte))
 }
 
 /// Whether an octet ends a line.
-fn ends_line(byte: u8) -> bool
+pub fn ends_line(byte: u8) -> bool
     ensures { result ≡ ends_line byte }
 {
     byte == b'\r' || byte == b'\n'
 }
 
 /// A line without the white space at its end.
-fn trimmed(line: &[u8]) -> &[u8]
+pub(crate) fn trimmed(line: &[u8]) -> &[u8]
     ensures { result.now ≡ trimmed line.now }
 {
     line.trim_ascii_end()
 }
 
 /// Of a line that begins a text the label, and the hyphens behind it.
-fn label_of(line: &[u8]) -> Option<&[u8]>
+pub(crate) fn label_of(line: &[u8]) -> Option<&[u8]>
     ensures { option_map (λ label. label.now) result ≡ label_of line.now }
 {
     if line.starts_with(b"-----BEGIN ") && line.ends_with(b"-----") {
@@ -63,14 +63,14 @@ fn label_of(line: &[u8]) -> Option<&[u8]>
 }
 
 /// Whether a line ends a text with this label.
-fn is_end(label: &[u8], line: &[u8]) -> bool
+pub(crate) fn is_end(label: &[u8], line: &[u8]) -> bool
     ensures { result ≡ is_end label.now line.now }
 {
     line.starts_with(b"-----END ") && &line[9..] == label
 }
 
 /// The bytes of which the digits are the base64.
-fn decode(alloc: Global, digits: &[u8]) -> Result<Vec<u8>, Unread>
+pub(crate) fn decode(alloc: Global, digits: &[u8]) -> Result<Vec<u8>, Unread>
     ensures { MatchResult result
         (λ bytes. decode_of standard digits.now ≡ Ok bytes.items)
         (λ e. (e ≡ unread.Memory) ⊎ ((e ≡ unread.Malformed) × IsErr (decode_of standard digits.now))) }
