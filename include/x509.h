@@ -571,6 +571,67 @@ x509_status x509_access_encode(const uint8_t *method, size_t method_len, const u
  * Answers X509_OK, X509_ROOM, X509_MEMORY, X509_OVERLENGTH, X509_MALFORMED, X509_VALUE. */
 x509_status x509_info_access_encode(const uint8_t *descriptions, size_t len, uint8_t *out, size_t room, size_t *written);
 
+/* Writes the address of a practice statement (4.2.1.4), a CPSuri, of these ASCII octets: a qualifier of the type X509_OID_CPS. How a URI is made isn't looked
+ * at.
+ * Answers X509_OK, X509_ROOM, X509_MEMORY, X509_OVERLENGTH, X509_MALFORMED. */
+x509_status x509_cps_uri_encode(const uint8_t *uri, size_t len, uint8_t *out, size_t room, size_t *written);
+
+/* Writes a SEQUENCE of `count` INTEGERs, as TLS features (RFC 7633 4) and a reference to notices (4.2.1.4) have them: the octets of the numbers, the most
+ * significant first, stand one after the other in octets[0..octets_len), and lens[i] is how many the i-th has; zeros in front are left out. There may be no
+ * number. X509_VALUE where one has no octets, else X509_FAILED where the lengths don't add up to `octets_len`.
+ * Answers X509_OK, X509_ROOM, X509_MEMORY, X509_OVERLENGTH, X509_FAILED, X509_VALUE. */
+x509_status x509_numbers_encode(const uint8_t *octets, size_t octets_len, const size_t *lens, size_t count, uint8_t *out, size_t room, size_t *written);
+
+/* Writes a UserNotice (4.2.1.4): with a reference to notices of this organization with these numbers, a whole SEQUENCE of INTEGERs, and with this text. Both
+ * texts are UTF-8, and are written as UTF8Strings. What has no bytes is left out; an organization has numbers, of which there may be none in the SEQUENCE.
+ * X509_FAILED where a text isn't UTF-8. X509_VALUE where one has more than 200 characters, or there are numbers without an organization. X509_MALFORMED where
+ * the numbers are no such encoding.
+ * Answers X509_OK, X509_ROOM, X509_MEMORY, X509_OVERLENGTH, X509_MALFORMED, X509_FAILED, X509_VALUE. */
+x509_status x509_user_notice_encode(const uint8_t *organization, size_t organization_len, const uint8_t *numbers, size_t numbers_len, const uint8_t *text,
+                                    size_t text_len, uint8_t *out, size_t room, size_t *written);
+
+/* Writes a PolicyQualifierInfo (4.2.1.4): of the type with an OID of these content octets, and with this qualifier, a whole element, as
+ * x509_cps_uri_encode and x509_user_notice_encode write one; one without a byte is left out.
+ * Answers X509_OK, X509_ROOM, X509_MEMORY, X509_OVERLENGTH, X509_MALFORMED. */
+x509_status x509_policy_qualifier_encode(const uint8_t *oid, size_t oid_len, const uint8_t *qualifier, size_t qualifier_len, uint8_t *out, size_t room,
+                                         size_t *written);
+
+/* Writes a PolicyInformation (4.2.1.4): of the policy with an OID of these content octets; encodings of what qualifies it are given one after the other, or
+ * there are none.
+ * Answers X509_OK, X509_ROOM, X509_MEMORY, X509_OVERLENGTH, X509_MALFORMED. */
+x509_status x509_policy_encode(const uint8_t *oid, size_t oid_len, const uint8_t *qualifiers, size_t qualifiers_len, uint8_t *out, size_t room, size_t *written);
+
+/* Writes a CertificatePolicies (4.2.1.4): encodings of its policies are given one after the other. X509_VALUE where there is none, or one is there twice.
+ * Answers X509_OK, X509_ROOM, X509_MEMORY, X509_OVERLENGTH, X509_MALFORMED, X509_VALUE. */
+x509_status x509_certificate_policies_encode(const uint8_t *policies, size_t len, uint8_t *out, size_t room, size_t *written);
+
+/* Writes a pair of a PolicyMappings (4.2.1.5): of a policy of the issuer's domain and one of the subject's, with OIDs of these content octets. X509_MALFORMED
+ * where no OID has the content octets of one; else X509_VALUE where one is anyPolicy. It takes no memory.
+ * Answers X509_OK, X509_ROOM, X509_MALFORMED, X509_VALUE. */
+x509_status x509_policy_mapping_encode(const uint8_t *issuer_policy, size_t issuer_policy_len, const uint8_t *subject_policy, size_t subject_policy_len,
+                                       uint8_t *out, size_t room, size_t *written);
+
+/* Writes a PolicyMappings (4.2.1.5): encodings of its pairs are given one after the other. X509_VALUE where there is none, or one has anyPolicy.
+ * Answers X509_OK, X509_ROOM, X509_MEMORY, X509_OVERLENGTH, X509_MALFORMED, X509_VALUE. */
+x509_status x509_policy_mappings_encode(const uint8_t *mappings, size_t len, uint8_t *out, size_t room, size_t *written);
+
+/* Writes an attribute of a SubjectDirectoryAttributes (4.2.1.8) or of a CSR (RFC 2986 4.1): of the type with an OID of these content octets, and with the set
+ * of these values, encodings of which are given one after the other, in any order. X509_VALUE where there is none, X509_SET_DUPLICATE where two are equal.
+ * Answers X509_OK, X509_ROOM, X509_MEMORY, X509_OVERLENGTH, X509_MALFORMED, X509_SET_DUPLICATE, X509_VALUE. */
+x509_status x509_request_attribute_encode(const uint8_t *oid, size_t oid_len, const uint8_t *values, size_t values_len, uint8_t *out, size_t room, size_t *written);
+
+/* Writes a SubjectDirectoryAttributes (4.2.1.8): encodings of its attributes are given one after the other. X509_VALUE where there is none. That an attribute
+ * given so has a value isn't looked at.
+ * Answers X509_OK, X509_ROOM, X509_MEMORY, X509_OVERLENGTH, X509_MALFORMED, X509_VALUE. */
+x509_status x509_subject_directory_attributes_encode(const uint8_t *attributes, size_t len, uint8_t *out, size_t room, size_t *written);
+
+/* Writes a SignedCertificateTimestampList (RFC 6962 3.3) of `count` serialized timestamps: their octets stand one after the other in
+ * timestamps[0..timestamps_len), and lens[i] is how many the i-th has. What a timestamp says isn't looked at. X509_VALUE where there is none, or one has no
+ * octets; else X509_FAILED where the lengths don't add up to `timestamps_len`; else X509_OVERLENGTH where the timestamps, each with two octets for its length,
+ * have more than 65,535 octets.
+ * Answers X509_OK, X509_ROOM, X509_MEMORY, X509_OVERLENGTH, X509_FAILED, X509_VALUE. */
+x509_status x509_timestamps_encode(const uint8_t *timestamps, size_t timestamps_len, const size_t *lens, size_t count, uint8_t *out, size_t room, size_t *written);
+
 /* Writes the GeneralSubtree (4.2.1.10) of all names at and below this one, a whole GeneralName. That an address is one of a network, with its mask behind it, and
  * that a DNS name has no wildcard, isn't looked at.
  * Answers X509_OK, X509_ROOM, X509_MEMORY, X509_OVERLENGTH, X509_MALFORMED. */
@@ -839,7 +900,7 @@ typedef struct {
 x509_status x509_path_check(const uint8_t *anchor, size_t anchor_len, const uint8_t *path, size_t path_len, const size_t *lens, size_t count,
                             uint64_t moment, x509_path_fault *fault);
 
-/* Further reasons, of x509_path_validate and the two calls like it alone. */
+/* Further reasons, of x509_path_validate and the calls like it alone. */
 
 /* An extension can't be decoded that is one of those of X509_PATH_CRITICAL, a NameConstraints, a CertificatePolicies, a PolicyMappings, a PolicyConstraints or
  * an InhibitAnyPolicy, critical or not. It comes in front of X509_PATH_CRITICAL, which is told here of a critical extension that is none of these, and of a
@@ -959,6 +1020,41 @@ x509_status x509_path_validate_under_anchor(const uint8_t *anchor, size_t anchor
                                             const uint8_t *name_constraints, size_t name_constraints_len, const uint8_t *policies, size_t policies_len,
                                             const x509_path_settings *settings, size_t settings_size, uint8_t *out, size_t room,
                                             x509_path_answer *answer);
+
+/* A certificate of a path. Each place is one in the bytes of this certificate, which begin at 0. */
+typedef struct {
+    x509_certificate view;    /* what x509_certificate_view says of it */
+    x509_signature signature; /* what is to be verified of it, as x509_certificate_signature says */
+} x509_path_certificate;
+
+/* The same three, which of a valid path also say what each certificate holds and what is to be verified of it. NOR DO THEY VERIFY SIGNATURES, but the caller
+ * who does asks no other call about the certificates: the first is verified under the anchor's key, each other one under `view.subject_public_key_info` of the
+ * one above it, as x509_working_key says.
+ *
+ * On X509_OK certificates[0..count) are filled in, topmost first, where `certificate_room`, which is how many places there are, isn't below `count`. Else, and
+ * where the answer is another, all places are unchanged: of a path with a fault x509_certificate_view and x509_certificate_signature say the same of the
+ * certificates in front of it.
+ * Answers X509_OK, X509_MEMORY, X509_OVERLENGTH, X509_MALFORMED, X509_FAILED, X509_VALUE, X509_ABSENT, X509_FAULT. */
+x509_status x509_path_validate_views(const uint8_t *anchor, size_t anchor_len, const uint8_t *path, size_t path_len, const size_t *lens, size_t count,
+                                     const uint8_t *name_constraints, size_t name_constraints_len, const uint8_t *policies, size_t policies_len,
+                                     const x509_path_settings *settings, size_t settings_size, uint8_t *out, size_t room, x509_path_answer *answer,
+                                     x509_path_certificate *certificates, size_t certificate_room);
+
+/* Under a name and a public key, as x509_path_validate_under_key.
+ * Answers X509_OK, X509_MEMORY, X509_OVERLENGTH, X509_MALFORMED, X509_FAILED, X509_VALUE, X509_ABSENT, X509_FAULT. */
+x509_status x509_path_validate_views_under_key(const uint8_t *name, size_t name_len, const uint8_t *key, size_t key_len, const uint8_t *path,
+                                               size_t path_len, const size_t *lens, size_t count, const uint8_t *name_constraints,
+                                               size_t name_constraints_len, const uint8_t *policies, size_t policies_len,
+                                               const x509_path_settings *settings, size_t settings_size, uint8_t *out, size_t room,
+                                               x509_path_answer *answer, x509_path_certificate *certificates, size_t certificate_room);
+
+/* Under a trust anchor, as x509_path_validate_under_anchor.
+ * Answers X509_OK, X509_MEMORY, X509_OVERLENGTH, X509_MALFORMED, X509_FAILED, X509_VALUE, X509_ABSENT, X509_FAULT. */
+x509_status x509_path_validate_views_under_anchor(const uint8_t *anchor, size_t anchor_len, const uint8_t *path, size_t path_len, const size_t *lens,
+                                                  size_t count, const uint8_t *name_constraints, size_t name_constraints_len, const uint8_t *policies,
+                                                  size_t policies_len, const x509_path_settings *settings, size_t settings_size, uint8_t *out,
+                                                  size_t room, x509_path_answer *answer, x509_path_certificate *certificates,
+                                                  size_t certificate_room);
 
 /* A certificate, and a key under which its signature doesn't hold: where each stands in the bytes that are handed over with them. */
 typedef struct {

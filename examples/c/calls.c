@@ -517,6 +517,105 @@ static void policies_of_paths(void)
     WANT(is_untouched(answer));
 }
 
+/* Places for what certificates of a path say, and what stands there before they are filled in. */
+static x509_path_certificate told[12];
+
+static void unsay(void)
+{
+    memset(told, 7, sizeof told);
+}
+
+/* Whether nothing was put into the places from that one on. */
+static int is_unsaid(size_t from)
+{
+    const uint8_t *const bytes = (const uint8_t *)told;
+    for (size_t at = from * sizeof *told; at < sizeof told; at++)
+        if (bytes[at] != 7)
+            return 0;
+    return 1;
+}
+
+static int is_same(x509_span a, x509_span b)
+{
+    return is_at(a, b.place, b.len);
+}
+
+/* Whether all numbers of two views are the same. */
+static int is_same_view(const x509_certificate *a, const x509_certificate *b)
+{
+    return a->version == b->version && is_same(a->serial_number, b->serial_number) && is_same(a->issuer, b->issuer) && is_same(a->subject, b->subject) &&
+           is_same(a->subject_public_key_info, b->subject_public_key_info) && is_same(a->extensions, b->extensions) && a->not_before == b->not_before &&
+           a->not_after == b->not_after && is_same(a->inner_algorithm, b->inner_algorithm) && is_same(a->issuer_unique_id, b->issuer_unique_id) &&
+           a->issuer_unused_bits == b->issuer_unused_bits && is_same(a->subject_unique_id, b->subject_unique_id) &&
+           a->subject_unused_bits == b->subject_unused_bits;
+}
+
+/* Whether so many places, and no further one, say what x509_certificate_view and x509_certificate_signature say of the certificates of a path. */
+static int is_said(const uint8_t *path, const size_t *lens, size_t count)
+{
+    for (size_t at = 0; at < count; path += lens[at++]) {
+        x509_certificate view;
+        x509_signature signature;
+        if (x509_certificate_view(path, lens[at], &view) != X509_OK || x509_certificate_signature(path, lens[at], &signature) != X509_OK)
+            return 0;
+        const x509_signature *const said = &told[at].signature;
+        if (!is_same_view(&told[at].view, &view) || !is_same(said->signed_part, signature.signed_part) || !is_same(said->algorithm, signature.algorithm) ||
+            !is_same(said->bits, signature.bits) || said->unused_bits != signature.unused_bits)
+            return 0;
+    }
+    return is_unsaid(count);
+}
+
+/* What is said to a call under the name and the key of the certificate of the examples. */
+#define UNDER_OWN_KEY(view) \
+    certificate + (view).subject.place, (view).subject.len, certificate + (view).subject_public_key_info.place, (view).subject_public_key_info.len
+
+/* The calls that say what each certificate of a path holds, where it is valid and there is room. */
+static void viewed_paths(void)
+{
+    const x509_path_settings first = {.moment = 1767323045}, before = {.moment = 1767323044};
+    const uint8_t *const path = certificate;
+    const size_t len = certificate_len;
+    x509_path_answer answer = UNTOUCHED;
+    x509_certificate own;
+    WANT(x509_certificate_view(certificate, len, &own) == X509_OK);
+    unsay();
+    WANT(x509_path_validate_views(certificate, len, path, len, &len, 1, PLAINLY(first), told, 1) == X509_OK && is_said(path, &len, 1));
+    WANT(is_same(answer.name, own.subject) && is_same(answer.key, own.subject_public_key_info) && answer.reason == 0 && answer.policies_len == 2);
+    unsay();
+    answer = UNTOUCHED;
+    WANT(x509_path_validate_views_under_key(UNDER_OWN_KEY(own), path, len, &len, 1, PLAINLY(first), told, 12) == X509_OK && is_said(path, &len, 1));
+    WANT(is_same(answer.name, own.subject) && is_same(answer.key, own.subject_public_key_info));
+    unsay();
+    answer = UNTOUCHED;
+    WANT(x509_path_validate_views_under_anchor(certificate, len, path, len, &len, 1, PLAINLY(first), told, 2) == X509_OK && is_said(path, &len, 1));
+    WANT(is_same(answer.name, own.subject) && is_same(answer.key, own.subject_public_key_info));
+
+    /* no room for them, as of the calls above */
+    unsay();
+    WANT(x509_path_validate_views(certificate, len, path, len, &len, 1, PLAINLY(first), NULL, 0) == X509_OK);
+    WANT(x509_path_validate_views_under_key(UNDER_OWN_KEY(own), path, len, &len, 1, PLAINLY(first), told, 0) == X509_OK);
+    WANT(x509_path_validate_views_under_anchor(certificate, len, path, len, &len, 1, PLAINLY(first), told, 0) == X509_OK && is_unsaid(0));
+    /* a fault; no certificates; lengths that don't add up; no settings; and an anchor that is none */
+    WANT(is_fault(x509_path_validate_views(certificate, len, path, len, &len, 1, PLAINLY(before), told, 1), &answer, 0, X509_PATH_MOMENT));
+    WANT(is_fault(x509_path_validate_views_under_key(UNDER_OWN_KEY(own), path, len, &len, 1, PLAINLY(before), told, 1), &answer, 0, X509_PATH_MOMENT));
+    WANT(is_fault(x509_path_validate_views_under_anchor(certificate, len, path, len, &len, 1, PLAINLY(before), told, 1), &answer, 0, X509_PATH_MOMENT));
+    answer = UNTOUCHED;
+    WANT(x509_path_validate_views(certificate, len, NULL, 0, NULL, 0, PLAINLY(first), told, 1) == X509_ABSENT);
+    WANT(x509_path_validate_views_under_key(UNDER_OWN_KEY(own), NULL, 0, NULL, 0, PLAINLY(first), told, 1) == X509_ABSENT);
+    WANT(x509_path_validate_views_under_anchor(certificate, len, NULL, 0, NULL, 0, PLAINLY(first), told, 1) == X509_ABSENT);
+    WANT(x509_path_validate_views(certificate, len, path, len - 1, &len, 1, PLAINLY(first), told, 1) == X509_FAILED);
+    WANT(x509_path_validate_views_under_key(UNDER_OWN_KEY(own), path, len - 1, &len, 1, PLAINLY(first), told, 1) == X509_FAILED);
+    WANT(x509_path_validate_views_under_anchor(certificate, len, path, len - 1, &len, 1, PLAINLY(first), told, 1) == X509_FAILED);
+    WANT(x509_path_validate_views(certificate, len, path, len, &len, 1, NULL, 0, NULL, 0, NULL, 0, NULL, 0, &answer, told, 1) == X509_VALUE);
+    WANT(x509_path_validate_views_under_key(UNDER_OWN_KEY(own), path, len, &len, 1, NULL, 0, NULL, 0, NULL, 0, NULL, 0, &answer, told, 1) == X509_VALUE);
+    WANT(x509_path_validate_views_under_anchor(certificate, len, path, len, &len, 1, NULL, 0, NULL, 0, NULL, 0, NULL, 0, &answer, told, 1) == X509_VALUE);
+    WANT(x509_path_validate_views(list, list_len, path, len, &len, 1, PLAINLY(first), told, 1) == X509_MALFORMED);
+    WANT(x509_path_validate_views_under_key(NULL, 0, BYTES(NAME), path, len, &len, 1, PLAINLY(first), told, 1) == X509_MALFORMED);
+    WANT(x509_path_validate_views_under_anchor(list, list_len, path, len, &len, 1, PLAINLY(first), told, 1) == X509_MALFORMED);
+    WANT(is_unsaid(0) && is_untouched(answer));
+}
+
 static void validated_paths(void)
 {
     const x509_path_settings first = {.moment = 1767323045}, before = {.moment = 1767323044}, last = {.moment = 2695968550}, behind = {.moment = 2695968551};
@@ -597,11 +696,24 @@ static void long_paths(void)
     WANT(x509_path_validate_under_anchor(BYTES(authority), path, sizeof path, lens, COUNT, PLAINLY(now)) == X509_OK);
     WANT(x509_path_validate_under_key(BYTES(NAME), BYTES("\x30\x08\x30\x03\x06\x01\x2a\x03\x01\x00"), path, sizeof path, lens, COUNT, PLAINLY(now))
          == X509_OK);
+    /* the fourth ends a year before the others; where there is room for all each says where its parts stand, and else none does */
+    memcpy(path + 3 * LEN + 50, "9998", 4);
+    unsay();
+    WANT(x509_path_validate_views(BYTES(authority), path, sizeof path, lens, COUNT, PLAINLY(now), told, COUNT - 1) == X509_OK && is_unsaid(0));
+    WANT(x509_path_validate_views(BYTES(authority), path, sizeof path, lens, COUNT, PLAINLY(now), told, 12) == X509_OK && is_said(path, lens, COUNT));
+    for (size_t at = 0; at < COUNT; at++) {
+        WANT(told[at].view.version == 3 && told[at].view.not_before == 0 && told[at].view.not_after == (at == 3 ? 253370764799 : 253402300799));
+        WANT(is_at(told[at].view.subject, 65, 14) && is_at(told[at].view.subject_public_key_info, 79, 10) && is_at(told[at].view.extensions, 91, 19));
+        WANT(is_at(told[at].signature.signed_part, 2, 108) && is_at(told[at].signature.algorithm, 110, 5) && is_at(told[at].signature.bits, 118, 2));
+    }
     /* the fifth isn't, with cA false in its BasicConstraints, which DER doesn't encode */
     path[5 * LEN - 11] = 0;
     WANT(x509_path_check(BYTES(authority), path, sizeof path, lens, COUNT, now.moment, &fault) == X509_FAULT && fault.place == 4
          && fault.reason == X509_PATH_CRITICAL);
     WANT(is_fault(x509_path_validate(BYTES(authority), path, sizeof path, lens, COUNT, PLAINLY(now)), &answer, 4, X509_PATH_EXTENSION));
+    unsay();
+    WANT(is_fault(x509_path_validate_views(BYTES(authority), path, sizeof path, lens, COUNT, PLAINLY(now), told, 12), &answer, 4, X509_PATH_EXTENSION));
+    WANT(is_unsaid(0));
 }
 
 /* Certificates by hand, from 1970 to 9999, without a path length constraint: a number, the names of issuer and subject, the OID of the key's algorithm, which
@@ -1230,6 +1342,7 @@ int main(int argc, char **argv)
     faults();
     paths();
     validated_paths();
+    viewed_paths();
     long_paths();
     found_paths();
     paths_beyond_limits();

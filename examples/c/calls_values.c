@@ -684,6 +684,129 @@ static void encoded_names(void)
     WANT(REFUSED(x509_general_names_encode(BYTES("\x04\x00"), OUT), X509_MALFORMED));
 }
 
+/* Policies of certificates, and numbers and attributes of subjects, by hand (RFC 5280 4.2.1.4, 4.2.1.5, 4.2.1.8, RFC 7633 4, X.690 8.3, 8.9). */
+#define QUALIFIER "\x30\x06\x06\x02\x2a\x03\x05\x00"
+#define POLICY "\x30\x04\x06\x02\x2a\x03"
+#define MAPPING "\x30\x08\x06\x02\x2a\x03\x06\x02\x2a\x04"
+#define NUMBERS "\x30\x03\x02\x01\x05"
+#define VALUES_OF "\x30\x08\x06\x02\x2a\x03\x31\x02\x05\x00"
+static void encoded_notices(void)
+{
+    WANT(WROTE(x509_cps_uri_encode(BYTES("a:b"), OUT), "\x16\x03" "a:b") && WROTE(x509_cps_uri_encode(nothing, 0, OUT), "\x16\x00"));
+    WANT(x509_cps_uri_encode(BYTES("a:b"), room, 4, &written) == X509_ROOM && written == 5);
+    WANT(REFUSED(x509_cps_uri_encode(BYTES("a:\x80"), OUT), X509_MALFORMED));
+
+    WANT(WROTE(x509_numbers_encode(BYTES("\x05\x00\x80"), (const size_t[]){1, 2}, 2, OUT), "\x30\x07\x02\x01\x05\x02\x02\x00\x80"));
+    WANT(WROTE(x509_numbers_encode(BYTES("\x00\x00\x11"), (const size_t[]){3}, 1, OUT), "\x30\x03\x02\x01\x11"));
+    WANT(WROTE(x509_numbers_encode(BYTES("\x00\xff"), (const size_t[]){1, 1}, 2, OUT), "\x30\x07\x02\x01\x00\x02\x02\x00\xff"));
+    WANT(WROTE(x509_numbers_encode(nothing, 0, NULL, 0, OUT), "\x30\x00"));
+    WANT(x509_numbers_encode(BYTES("\x05"), (const size_t[]){1}, 1, room, 4, &written) == X509_ROOM && written == 5);
+    WANT(REFUSED(x509_numbers_encode(BYTES("\x05"), (const size_t[]){2}, 1, OUT), X509_FAILED));
+    WANT(REFUSED(x509_numbers_encode(BYTES("\x05\x06"), (const size_t[]){1}, 1, OUT), X509_FAILED));
+    WANT(REFUSED(x509_numbers_encode(BYTES("\x05"), (const size_t[]){1, SIZE_MAX}, 2, OUT), X509_FAILED));
+    WANT(REFUSED(x509_numbers_encode(BYTES("\x05"), NULL, 0, OUT), X509_FAILED));
+    WANT(REFUSED(x509_numbers_encode(BYTES("\x05"), (const size_t[]){0, 1}, 2, OUT), X509_VALUE));
+    WANT(REFUSED(x509_numbers_encode(BYTES("\x05"), (const size_t[]){2, 0}, 2, OUT), X509_VALUE));
+
+    x509_user_notice_view notice;
+    WANT(WROTE(x509_user_notice_encode(BYTES("a"), BYTES(NUMBERS), BYTES("b"), OUT), "\x30\x0d\x30\x08\x0c\x01" "a" NUMBERS "\x0c\x01" "b"));
+    WANT(x509_user_notice(room, written, &notice) == X509_OK && is_at(notice.organization, 4, 3) && is_at(notice.notice_numbers, 7, 5)
+         && is_at(notice.explicit_text, 12, 3));
+    WANT(WROTE(x509_user_notice_encode(BYTES("a"), BYTES("\x30\x00"), nothing, 0, OUT), "\x30\x07\x30\x05\x0c\x01" "a\x30\x00"));
+    WANT(WROTE(x509_user_notice_encode(nothing, 0, nothing, 0, BYTES("\xc3\xbc"), OUT), "\x30\x04\x0c\x02\xc3\xbc"));
+    WANT(WROTE(x509_user_notice_encode(nothing, 0, nothing, 0, nothing, 0, OUT), "\x30\x00"));
+    WANT(x509_user_notice_encode(nothing, 0, nothing, 0, BYTES("b"), room, 4, &written) == X509_ROOM && written == 5);
+    WANT(REFUSED(x509_user_notice_encode(BYTES("\xff"), BYTES(NUMBERS), nothing, 0, OUT), X509_FAILED));
+    WANT(REFUSED(x509_user_notice_encode(nothing, 0, nothing, 0, BYTES("b\xc3"), OUT), X509_FAILED));
+    WANT(REFUSED(x509_user_notice_encode(nothing, 0, BYTES(NUMBERS), BYTES("b"), OUT), X509_VALUE));
+    WANT(REFUSED(x509_user_notice_encode(BYTES("a"), nothing, 0, BYTES("b"), OUT), X509_MALFORMED));
+    WANT(REFUSED(x509_user_notice_encode(BYTES("a"), BYTES("\x30\x03\x02\x01\xff"), nothing, 0, OUT), X509_MALFORMED));
+    /* 200 characters of two octets each, and one more */
+    uint8_t text[402];
+    for (size_t at = 0; at < sizeof text; at += 2)
+        memcpy(text + at, "\xc3\xbc", 2);
+    WANT(x509_user_notice_encode(nothing, 0, nothing, 0, text, 400, NULL, 0, &written) == X509_ROOM && written == 408);
+    WANT(x509_user_notice_encode(text, 400, BYTES(NUMBERS), nothing, 0, NULL, 0, &written) == X509_ROOM && written == 417);
+    WANT(REFUSED(x509_user_notice_encode(nothing, 0, nothing, 0, text, 402, OUT), X509_VALUE));
+    WANT(REFUSED(x509_user_notice_encode(text, 402, BYTES(NUMBERS), nothing, 0, OUT), X509_VALUE));
+}
+
+/* Lists of timestamps, by hand (RFC 6962 3.3): each behind its length of two octets, and all of them behind theirs. */
+static void encoded_timestamps(void)
+{
+    size_t at = 0;
+    x509_span found;
+    WANT(WROTE(x509_timestamps_encode(BYTES("abc"), (const size_t[]){1, 2}, 2, OUT), "\x04\x09\x00\x07\x00\x01" "a\x00\x02" "bc"));
+    WANT(x509_timestamp_next(room, written, &at, &found) == X509_OK && is_at(found, 6, 1));
+    WANT(x509_timestamp_next(room, written, &at, &found) == X509_OK && is_at(found, 9, 2));
+    WANT(x509_timestamp_next(room, written, &at, &found) == X509_ABSENT);
+    WANT(x509_timestamps_encode(BYTES("abc"), (const size_t[]){3}, 1, room, 8, &written) == X509_ROOM && written == 9);
+    WANT(REFUSED(x509_timestamps_encode(nothing, 0, NULL, 0, OUT), X509_VALUE));
+    WANT(REFUSED(x509_timestamps_encode(BYTES("abc"), (const size_t[]){3, 0}, 2, OUT), X509_VALUE));
+    WANT(REFUSED(x509_timestamps_encode(BYTES("abc"), (const size_t[]){2}, 1, OUT), X509_FAILED));
+    WANT(REFUSED(x509_timestamps_encode(BYTES("abc"), (const size_t[]){1, 3}, 2, OUT), X509_FAILED));
+    /* 65,535 octets with the lengths, and one more */
+    static const uint8_t many[65536];
+    WANT(x509_timestamps_encode(many, 65533, (const size_t[]){65533}, 1, NULL, 0, &written) == X509_ROOM && written == 65542);
+    WANT(x509_timestamps_encode(many, 65531, (const size_t[]){65530, 1}, 2, NULL, 0, &written) == X509_ROOM && written == 65542);
+    WANT(REFUSED(x509_timestamps_encode(many, 65534, (const size_t[]){65534}, 1, OUT), X509_OVERLENGTH));
+    WANT(REFUSED(x509_timestamps_encode(many, 65532, (const size_t[]){65531, 1}, 2, OUT), X509_OVERLENGTH));
+    WANT(REFUSED(x509_timestamps_encode(many, 65536, (const size_t[]){65536}, 1, OUT), X509_OVERLENGTH));
+}
+
+static void encoded_policies(void)
+{
+    WANT(WROTE(x509_policy_qualifier_encode(BYTES("\x2a\x03"), BYTES("\x05\x00"), OUT), QUALIFIER));
+    WANT(WROTE(x509_policy_qualifier_encode(BYTES("\x2a\x03"), nothing, 0, OUT), "\x30\x04\x06\x02\x2a\x03"));
+    WANT(x509_policy_qualifier_encode(BYTES("\x2a\x03"), nothing, 0, room, 5, &written) == X509_ROOM && written == 6);
+    WANT(REFUSED(x509_policy_qualifier_encode(BYTES("\x80"), nothing, 0, OUT), X509_MALFORMED));
+    WANT(REFUSED(x509_policy_qualifier_encode(BYTES("\x2a\x03"), BYTES("\x05"), OUT), X509_MALFORMED));
+    WANT(REFUSED(x509_policy_qualifier_encode(BYTES("\x2a\x03"), BYTES("\x05\x00\x05\x00"), OUT), X509_MALFORMED));
+
+    x509_policy found;
+    size_t at = 0;
+    WANT(WROTE(x509_policy_encode(BYTES("\x2a\x03"), nothing, 0, OUT), POLICY));
+    WANT(WROTE(x509_policy_encode(BYTES("\x2a\x03"), BYTES(QUALIFIER QUALIFIER), OUT), "\x30\x16\x06\x02\x2a\x03\x30\x10" QUALIFIER QUALIFIER));
+    WANT(x509_policy_encode(BYTES("\x2a\x03"), nothing, 0, room, 5, &written) == X509_ROOM && written == 6);
+    WANT(REFUSED(x509_policy_encode(nothing, 0, nothing, 0, OUT), X509_MALFORMED));
+    WANT(REFUSED(x509_policy_encode(BYTES("\x2a\x03"), BYTES("\x30\x00"), OUT), X509_MALFORMED));
+    WANT(WROTE(x509_certificate_policies_encode(BYTES(POLICY), OUT), "\x30\x06" POLICY));
+    WANT(x509_certificate_policies_next(room, written, &at, &found) == X509_OK && is_at(found.identifier, 6, 2) && is_at(found.qualifiers, 0, 0));
+    WANT(x509_certificate_policies_encode(BYTES(POLICY), room, 7, &written) == X509_ROOM && written == 8);
+    WANT(REFUSED(x509_certificate_policies_encode(nothing, 0, OUT), X509_VALUE));
+    WANT(REFUSED(x509_certificate_policies_encode(BYTES(POLICY POLICY), OUT), X509_VALUE));
+    WANT(WROTE(x509_certificate_policies_encode(BYTES(POLICY "\x30\x04\x06\x02\x2a\x04"), OUT), "\x30\x0c" POLICY "\x30\x04\x06\x02\x2a\x04"));
+    WANT(REFUSED(x509_certificate_policies_encode(BYTES(POLICY "\x30\x04\x06\x02\x2a\x04" POLICY), OUT), X509_VALUE));
+    WANT(REFUSED(x509_certificate_policies_encode(BYTES(POLICY DNS_NAME), OUT), X509_MALFORMED));
+
+    WANT(WROTE(x509_policy_mapping_encode(BYTES("\x2a\x03"), BYTES("\x2a\x04"), OUT), MAPPING));
+    WANT(x509_policy_mapping_encode(BYTES("\x2a\x03"), BYTES("\x2a\x04"), room, 9, &written) == X509_ROOM && written == 10);
+    WANT(REFUSED(x509_policy_mapping_encode(BYTES(X509_OID_ANY_POLICY), BYTES("\x2a\x04"), OUT), X509_VALUE));
+    WANT(REFUSED(x509_policy_mapping_encode(BYTES("\x2a\x03"), BYTES(X509_OID_ANY_POLICY), OUT), X509_VALUE));
+    WANT(REFUSED(x509_policy_mapping_encode(BYTES("\x80"), BYTES(X509_OID_ANY_POLICY), OUT), X509_MALFORMED));
+    WANT(REFUSED(x509_policy_mapping_encode(BYTES("\x2a\x03"), nothing, 0, OUT), X509_MALFORMED));
+    WANT(WROTE(x509_policy_mapping_encode(BYTES("\x55\x1d\x20"), BYTES("\x55\x1d\x20\x00\x00"), OUT),
+               "\x30\x0c\x06\x03\x55\x1d\x20\x06\x05\x55\x1d\x20\x00\x00"));
+    WANT(WROTE(x509_policy_mappings_encode(BYTES(MAPPING), OUT), "\x30\x0a" MAPPING));
+    WANT(x509_policy_mappings_encode(BYTES(MAPPING), room, 11, &written) == X509_ROOM && written == 12);
+    WANT(REFUSED(x509_policy_mappings_encode(BYTES(MAPPING "\x30\x0a\x06\x04\x55\x1d\x20\x00\x06\x02\x2a\x04"), OUT), X509_VALUE));
+    WANT(REFUSED(x509_policy_mappings_encode(BYTES("\x30\x0a\x06\x02\x2a\x03\x06\x04\x55\x1d\x20\x00"), OUT), X509_VALUE));
+    WANT(REFUSED(x509_policy_mappings_encode(nothing, 0, OUT), X509_VALUE) && REFUSED(x509_policy_mappings_encode(BYTES(POLICY), OUT), X509_MALFORMED));
+
+    WANT(WROTE(x509_request_attribute_encode(BYTES("\x2a\x03"), BYTES("\x05\x00"), OUT), VALUES_OF));
+    WANT(WROTE(x509_request_attribute_encode(BYTES("\x2a\x03"), BYTES("\x0c\x01" "a\x05\x00\x04\x00"), OUT),
+               "\x30\x0d\x06\x02\x2a\x03\x31\x07\x04\x00\x05\x00\x0c\x01" "a"));
+    WANT(x509_request_attribute_encode(BYTES("\x2a\x03"), BYTES("\x05\x00"), room, 9, &written) == X509_ROOM && written == 10);
+    WANT(REFUSED(x509_request_attribute_encode(BYTES("\x2a\x03"), nothing, 0, OUT), X509_VALUE));
+    WANT(REFUSED(x509_request_attribute_encode(BYTES("\x80"), BYTES("\x05\x00"), OUT), X509_MALFORMED));
+    WANT(REFUSED(x509_request_attribute_encode(BYTES("\x2a\x03"), BYTES("\x05"), OUT), X509_MALFORMED));
+    WANT(REFUSED(x509_request_attribute_encode(BYTES("\x2a\x03"), BYTES("\x05\x00\x04\x00\x05\x00"), OUT), X509_SET_DUPLICATE));
+    WANT(WROTE(x509_subject_directory_attributes_encode(BYTES(VALUES_OF), OUT), "\x30\x0a" VALUES_OF));
+    WANT(x509_subject_directory_attributes_encode(BYTES(VALUES_OF), room, 11, &written) == X509_ROOM && written == 12);
+    WANT(REFUSED(x509_subject_directory_attributes_encode(nothing, 0, OUT), X509_VALUE));
+    WANT(REFUSED(x509_subject_directory_attributes_encode(BYTES(POLICY), OUT), X509_MALFORMED));
+}
+
 /* What holds general names, by hand (RFC 5280 4.2.1.10, 4.2.1.13, 4.2.2.1, 5.2.5). */
 #define ACCESS "\x30\x07\x06\x02\x2a\x03" DNS_NAME
 #define SUBTREE "\x30\x03" DNS_NAME
@@ -992,6 +1115,9 @@ int main(int argc, char **argv)
     encoded();
     encoded_moments();
     encoded_names();
+    encoded_notices();
+    encoded_timestamps();
+    encoded_policies();
     encoded_places();
     key_identifiers();
     accesses();

@@ -2,7 +2,8 @@
  * signatures, and says what is to be verified of each certificate; here OpenSSL's libcrypto verifies that. Policies, name constraints and revocation
  * aren't looked at, nor for whom and for which use the last certificate is.
  *
- * With `validate` in front it validates the path: names are compared as they match (RFC 5280 7.1), and name constraints hold, those of the anchor too.
+ * With `validate` in front it validates the path: names are compared as they match (RFC 5280 7.1), and name constraints hold, those of the anchor too. Of a
+ * valid path that call says what is to be verified of each certificate.
  *
  * It prints `holds`; or `fault PLACE REASON`, the lowest place that has a fault, from 0, and the first of its faults in the order of x509.h; or
  * `refused STATUS`. It ends with 0 where the path holds, and with 1 else.
@@ -15,48 +16,62 @@
 #include <string.h>
 #include "verifying.h"
 
-/* ---- one signature */
-
-/* Finds out whether a certificate is signed by the key of the one above it. Where either can't be read, nothing is found out. */
-static x509_status verify(octets certificate, octets above, int *is_signed)
-{
-    x509_signature signature;
-    x509_certificate view;
-    x509_status status = x509_certificate_signature(certificate.bytes, certificate.len, &signature);
-    if (status != X509_OK)
-        return status;
-    status = x509_certificate_view(above.bytes, above.len, &view);
-    if (status != X509_OK)
-        return status;
-    *is_signed = is_signature(certificate, &signature, part_of(above, view.subject_public_key_info));
-    return X509_OK;
-}
-
 /* ---- a path */
 
-/* A path, at a moment, and whether it is validated. */
+/* A path, at a moment, and whether it is validated; and a place for what each of its certificates says. */
 typedef struct {
     octets anchor, path;
     const size_t *lens;
     size_t count;
     uint64_t moment;
     int is_validated;
+    x509_path_certificate *certificates;
 } question;
 
-/* The same apart from signatures. */
+/* X509_OK where the path holds apart from signatures; X509_FAULT where it has a fault, with the first; else why it wasn't checked. Of a path that is validated
+ * and holds all places are filled in. */
 static x509_status ask(const question *it, x509_path_fault *fault)
 {
     if (!it->is_validated)
         return x509_path_check(it->anchor.bytes, it->anchor.len, it->path.bytes, it->path.len, it->lens, it->count, it->moment, fault);
     const x509_path_settings settings = {.moment = it->moment};
     x509_path_answer answer = {0, 0, {0, 0}, {0, 0}, 0};
-    const x509_status status = x509_path_validate(it->anchor.bytes, it->anchor.len, it->path.bytes, it->path.len, it->lens, it->count, NULL, 0, NULL, 0,
-                                                  &settings, sizeof settings, NULL, 0, &answer);
+    const x509_status status = x509_path_validate_views(it->anchor.bytes, it->anchor.len, it->path.bytes, it->path.len, it->lens, it->count, NULL, 0, NULL, 0,
+                                                        &settings, sizeof settings, NULL, 0, &answer, it->certificates, it->count);
     *fault = (x509_path_fault){answer.place, answer.reason};
     return status;
 }
 
-/* X509_OK where the path holds; X509_FAULT where it has a fault, with the first; else why it wasn't checked. */
+/* Fills in the places in front of `end`. */
+static x509_status read_certificates(const question *it, size_t end)
+{
+    const uint8_t *at = it->path.bytes;
+    x509_status status = X509_OK;
+    for (size_t place = 0; place < end && status == X509_OK; place++) {
+        status = x509_certificate_view(at, it->lens[place], &it->certificates[place].view);
+        if (status == X509_OK)
+            status = x509_certificate_signature(at, it->lens[place], &it->certificates[place].signature);
+        at += it->lens[place];
+    }
+    return status;
+}
+
+/* The first place in front of `end` of a certificate that isn't signed by the key of the one above it, the first by that of the anchor; `end` where each is. */
+static size_t first_unsigned(const question *it, octets key, size_t end)
+{
+    const uint8_t *at = it->path.bytes;
+    size_t place = 0;
+    for (; place < end; place++) {
+        const octets certificate = {at, it->lens[place]};
+        if (!is_signature(certificate, &it->certificates[place].signature, key))
+            break;
+        key = part_of(certificate, it->certificates[place].view.subject_public_key_info);
+        at += it->lens[place];
+    }
+    return place;
+}
+
+/* As `ask`, with signatures. */
 static x509_status check(const question *it, x509_path_fault *fault)
 {
     const x509_status status = ask(it, fault);
@@ -64,22 +79,17 @@ static x509_status check(const question *it, x509_path_fault *fault)
         return status;
     /* A signature's fault comes first where it stands above the other, or at its place and in front of it in the order. */
     const size_t end = status == X509_OK ? it->count : fault->place + (fault->reason > X509_PATH_SIGNATURE);
-    octets above = it->anchor;
-    const uint8_t *at = it->path.bytes;
-    for (size_t place = 0; place < end; place++) {
-        const octets certificate = {at, it->lens[place]};
-        int is_signed = 0;
-        const x509_status verified = verify(certificate, above, &is_signed);
-        if (verified != X509_OK)
-            return verified;
-        if (!is_signed) {
-            *fault = (x509_path_fault){place, X509_PATH_SIGNATURE};
-            return X509_FAULT;
-        }
-        at += it->lens[place];
-        above = certificate;
-    }
-    return status;
+    x509_certificate anchor;
+    x509_status read = x509_certificate_view(it->anchor.bytes, it->anchor.len, &anchor);
+    if (read == X509_OK && !(it->is_validated && status == X509_OK))
+        read = read_certificates(it, end);
+    if (read != X509_OK)
+        return read;
+    const size_t place = first_unsigned(it, part_of(it->anchor, anchor.subject_public_key_info), end);
+    if (place == end)
+        return status;
+    *fault = (x509_path_fault){place, X509_PATH_SIGNATURE};
+    return X509_FAULT;
 }
 
 /* Prints the answer, and says with what the program ends. */
@@ -171,17 +181,19 @@ int main(int argc, char **argv)
     }
     const size_t count = (size_t)argc - 3;
     size_t *lens = calloc(count + 1, sizeof *lens);
+    x509_path_certificate *certificates = calloc(count + 1, sizeof *certificates);
     buffer anchor = {NULL, 0, 0}, path = {NULL, 0, 0};
     int ended = 1;
-    if (lens != NULL && read_file(&anchor, argv[2]) && read_files(&path, lens, count, argv + 3)) {
+    if (lens != NULL && certificates != NULL && read_file(&anchor, argv[2]) && read_files(&path, lens, count, argv + 3)) {
         x509_path_fault fault = {0, 0};
-        const question asked = {{anchor.bytes, anchor.len}, {path.bytes, path.len}, lens, count, moment, is_validated};
+        const question asked = {{anchor.bytes, anchor.len}, {path.bytes, path.len}, lens, count, moment, is_validated, certificates};
         const x509_status status = check(&asked, &fault);
         ended = tell(status, fault);
     } else {
         fprintf(stderr, "path: a file can't be read, or there is too little memory\n");
     }
     free(lens);
+    free(certificates);
     free(anchor.bytes);
     free(path.bytes);
     return ended;

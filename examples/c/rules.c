@@ -174,9 +174,19 @@ static void no_pointers(void)
     written = 77;
     WANT(x509_other_name_encode(NULL, 0, NULL, 0, NULL, 0, &written) == X509_MALFORMED && x509_access_encode(NULL, 0, NULL, 0, NULL, 0, &written) == X509_MALFORMED);
     WANT(x509_general_names_encode(NULL, 0, NULL, 0, &written) == X509_VALUE && x509_info_access_encode(NULL, 0, NULL, 0, &written) == X509_VALUE);
+    WANT(x509_policy_qualifier_encode(NULL, 0, NULL, 0, NULL, 0, &written) == X509_MALFORMED);
+    WANT(x509_policy_encode(NULL, 0, NULL, 0, NULL, 0, &written) == X509_MALFORMED);
+    WANT(x509_certificate_policies_encode(NULL, 0, NULL, 0, &written) == X509_VALUE && x509_policy_mappings_encode(NULL, 0, NULL, 0, &written) == X509_VALUE);
+    WANT(x509_policy_mapping_encode(NULL, 0, NULL, 0, NULL, 0, &written) == X509_MALFORMED);
+    WANT(x509_request_attribute_encode(NULL, 0, NULL, 0, NULL, 0, &written) == X509_VALUE);
+    WANT(x509_timestamps_encode(NULL, 0, NULL, 0, NULL, 0, &written) == X509_VALUE);
+    WANT(x509_subject_directory_attributes_encode(NULL, 0, NULL, 0, &written) == X509_VALUE && written == 77);
     WANT(x509_distribution_points_encode(NULL, 0, NULL, 0, &written) == X509_VALUE && x509_subtree_encode(NULL, 0, NULL, 0, &written) == X509_MALFORMED);
     WANT(x509_name_constraints_encode(NULL, 0, NULL, 0, NULL, 0, &written) == X509_VALUE && written == 77);
     WANT(x509_distribution_point_encode(NULL, 0, NULL, 0, 0, 0, NULL, 0, NULL, 0, &written) == X509_VALUE && written == 77);
+    WANT(x509_cps_uri_encode(NULL, 0, NULL, 0, &written) == X509_ROOM && written == 2);
+    WANT(x509_numbers_encode(NULL, 0, NULL, 0, NULL, 0, &written) == X509_ROOM && written == 2);
+    WANT(x509_user_notice_encode(NULL, 0, NULL, 0, NULL, 0, NULL, 0, &written) == X509_ROOM && written == 2);
     WANT(x509_basic_constraints_encode(&(x509_basic_constraints_view){0, 0, 0}, NULL, 0, &written) == X509_ROOM && written == 2);
     WANT(x509_policy_constraints_encode(&(x509_policy_constraints_view){1, 0, 0, 0}, NULL, 0, &written) == X509_ROOM && written == 5);
     written = 77;
@@ -392,6 +402,12 @@ static void overlong_paths(const uint8_t *bytes, size_t len)
     WANT(x509_path_validate(certificate, certificate_len, PATH, bytes, len, NULL, 0, SETTINGS) == X509_OVERLENGTH);
     WANT(x509_path_validate_under_key(bytes, len, BYTES(KEY), PATH, NULL, 0, NULL, 0, SETTINGS) == X509_OVERLENGTH);
     WANT(x509_path_validate_under_anchor(bytes, len, PATH, NULL, 0, NULL, 0, SETTINGS) == X509_OVERLENGTH);
+    x509_path_certificate place[2];
+    memset(place, 7, sizeof place);
+    WANT(x509_path_validate_views(bytes, len, PATH, NULL, 0, NULL, 0, SETTINGS, place, 1) == X509_OVERLENGTH);
+    WANT(x509_path_validate_views_under_key(bytes, len, BYTES(KEY), PATH, NULL, 0, NULL, 0, SETTINGS, place, 1) == X509_OVERLENGTH);
+    WANT(x509_path_validate_views_under_anchor(bytes, len, PATH, NULL, 0, NULL, 0, SETTINGS, place, 1) == X509_OVERLENGTH);
+    WANT(memcmp(&place[0], &place[1], sizeof place[0]) == 0);
     WANT(answer.place == 7 && answer.reason == 7 && answer.name.len == 7 && answer.key.len == 7 && answer.policies_len == 7);
     const x509_span whole = {0, len};
     x509_found_path found = {7, 7, 7, 7};
@@ -415,6 +431,22 @@ static void overlong_purposes(uint8_t *bytes, size_t len)
     free(lens);
 }
 
+/* Pairs of policies of 84 bytes each, and one of 10, that are together too long. */
+static void overlong_mappings(uint8_t *bytes, size_t len)
+{
+    uint8_t pair[84] = "\x30\x52\x06\x27";
+    memset(pair + 4, 1, 39);
+    memcpy(pair + 43, "\x06\x27", 2);
+    memset(pair + 45, 1, 39);
+    size_t at = 0;
+    written = 77;
+    for (; at + 94 < len; at += 84)
+        memcpy(bytes + at, pair, 84);
+    memcpy(bytes + at, "\x30\x08\x06\x02\x2a\x03\x06\x02\x2a\x04", 10);
+    WANT(at + 10 < len && len < at + 17);
+    WANT(x509_policy_mappings_encode(bytes, at + 10, OUT) == X509_OVERLENGTH && written == 77);
+}
+
 /* What builds, of a part that is too long. */
 static void overlong_parts(uint8_t *bytes, size_t len)
 {
@@ -425,6 +457,8 @@ static void overlong_parts(uint8_t *bytes, size_t len)
     WANT(x509_general_name_encode(7, bytes, len, OUT) == X509_OVERLENGTH && x509_other_name_encode(OID, 3, bytes, len, OUT) == X509_OVERLENGTH);
     WANT(x509_access_encode(OID, 3, bytes, len, OUT) == X509_OVERLENGTH && x509_subtree_encode(bytes, len, OUT) == X509_OVERLENGTH);
     WANT(x509_distribution_point_encode(NULL, 0, bytes, len, 0, 0, NULL, 0, OUT) == X509_OVERLENGTH);
+    WANT(x509_policy_qualifier_encode(OID, 3, bytes, len, OUT) == X509_OVERLENGTH);
+    WANT(x509_user_notice_encode(BYTES("a"), bytes, len, NULL, 0, OUT) == X509_OVERLENGTH);
     WANT(x509_crl_entry_encode(bytes, len, MOMENT, NULL, 0, OUT) == X509_OVERLENGTH);
     WANT(x509_attribute_encode(BYTES("\x55\x04\x03"), 0x0c, bytes, len, 0, OUT) == X509_OVERLENGTH);
     WANT(x509_build_request(bytes, len, BYTES(KEY), NULL, 0, NULL, 0, OUT) == X509_OVERLENGTH);
@@ -437,12 +471,18 @@ static void overlong_parts(uint8_t *bytes, size_t len)
     WANT(x509_build_device(NUMBER_AND_ALGORITHM, bytes, len, BYTES(KEY), MOMENT, MOMENT, BYTES(NO_NAME), BYTES(KEY), NULL, 0, NULL, 0, OUT) == X509_OVERLENGTH);
     WANT(x509_build_crl(bytes, len, BYTES(ALGORITHM), BYTES("\x01"), MOMENT, 0, 0, NULL, 0, NULL, 0, OUT) == X509_OVERLENGTH);
     WANT(x509_assemble(bytes, len, BYTES(ALGORITHM), NULL, 0, OUT) == X509_OVERLENGTH);
-    /* a name, an access, a point and a subtree of 268,435,455 bytes, which the list round it makes too long */
+    /* a name, an access or a qualifier, a policy, an attribute, a point and a subtree of 268,435,455 bytes, which the list round it makes too long */
     memcpy(bytes, "\x87\x84\x0f\xff\xff\xf9", 6);
     WANT(x509_general_names_encode(bytes, len - 1, OUT) == X509_OVERLENGTH);
     WANT(x509_issuing_distribution_point_encode(&(x509_issuing_distribution_point_view){.indirect_crl = 0}, bytes, len - 1, NULL, 0, OUT) == X509_OVERLENGTH);
+    WANT(x509_request_attribute_encode(OID, 3, bytes, len - 1, OUT) == X509_OVERLENGTH);
     memcpy(bytes, "\x30\x84\x0f\xff\xff\xf9\x06\x03\x55\x04\x03\x87\x84\x0f\xff\xff\xee", 17);
     WANT(x509_info_access_encode(bytes, len - 1, OUT) == X509_OVERLENGTH);
+    WANT(x509_policy_encode(OID, 3, bytes, len - 1, OUT) == X509_OVERLENGTH);
+    memcpy(bytes, "\x30\x84\x0f\xff\xff\xf9\x06\x03\x55\x04\x03\x30\x84\x0f\xff\xff\xee\x30\x84\x0f\xff\xff\xe8\x06\x03\x55\x04\x03\x87\x84\x0f\xff\xff\xdd", 34);
+    WANT(x509_certificate_policies_encode(bytes, len - 1, OUT) == X509_OVERLENGTH);
+    memcpy(bytes, "\x30\x84\x0f\xff\xff\xf9\x06\x03\x55\x04\x03\x31\x84\x0f\xff\xff\xee\x87\x84\x0f\xff\xff\xe8", 23);
+    WANT(x509_subject_directory_attributes_encode(bytes, len - 1, OUT) == X509_OVERLENGTH);
     memcpy(bytes, "\x30\x84\x0f\xff\xff\xf9\xa0\x84\x0f\xff\xff\xf3\xa0\x84\x0f\xff\xff\xed\x87\x84\x0f\xff\xff\xe7", 24);
     WANT(x509_distribution_points_encode(bytes, len - 1, OUT) == X509_OVERLENGTH);
     memcpy(bytes, "\x30\x84\x0f\xff\xff\xf9\x87\x84\x0f\xff\xff\xf3", 12);
@@ -454,6 +494,7 @@ static void overlong_parts(uint8_t *bytes, size_t len)
     WANT(x509_name_build(bytes, len - 1, OUT) == X509_OVERLENGTH);
     /* a name that is longer than its text, which is none too long */
     memset(bytes, 'a', len);
+    WANT(x509_cps_uri_encode(bytes, len, OUT) == X509_OVERLENGTH && x509_numbers_encode(bytes, len, &len, 1, OUT) == X509_OVERLENGTH);
     memcpy(bytes, "CN=", 3);
     WANT(x509_name_from_text(bytes, len - 8, OUT) == X509_OVERLENGTH && written == 77);
 }
@@ -505,6 +546,7 @@ static void overlong(void)
     refused_values(bytes, len, X509_OVERLENGTH);
     overlong_paths(bytes, len);
     overlong_purposes(bytes, len);
+    overlong_mappings(bytes, len);
     overlong_parts(bytes, len);
     free(bytes);
 }

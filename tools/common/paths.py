@@ -50,11 +50,31 @@ class Answer(ctypes.Structure):
     _fields_ = [("place", ctypes.c_size_t), ("reason", ctypes.c_uint32), ("name", Span), ("key", Span), ("policies_len", ctypes.c_size_t)]
 
 
+class View(ctypes.Structure):
+    """x509_certificate."""
+
+    _fields_ = [("version", ctypes.c_uint32), *((it, Span) for it in ("serial_number", "issuer", "subject", "subject_public_key_info", "extensions"))]
+    _fields_ += [("not_before", ctypes.c_uint64), ("not_after", ctypes.c_uint64), ("inner_algorithm", Span), ("issuer_unique_id", Span)]
+    _fields_ += [("issuer_unused_bits", ctypes.c_uint32), ("subject_unique_id", Span), ("subject_unused_bits", ctypes.c_uint32)]
+
+
+class Signature(ctypes.Structure):
+    """x509_signature."""
+
+    _fields_ = [("signed_part", Span), ("algorithm", Span), ("bits", Span), ("unused_bits", ctypes.c_uint32)]
+
+
+class PathCertificate(ctypes.Structure):
+    """x509_path_certificate."""
+
+    _fields_ = [("view", View), ("signature", Signature)]
+
+
 class Library:
     """The C library, asked under the name 0 and a key."""
 
     def __init__(self, path, room=1 << 20):
-        self.call = ctypes.CDLL(str(path.resolve())).x509_path_validate_under_key
+        self.call = ctypes.CDLL(str(path.resolve())).x509_path_validate_views_under_key
         self.out = ctypes.create_string_buffer(room)
 
     def asked(self, path, flags=0, policies=b""):
@@ -63,6 +83,7 @@ class Library:
         size = ctypes.c_size_t
         words = [name(0), size(len(name(0))), KEY, size(len(KEY)), whole, size(len(whole)), lens, size(len(path)), b"", size(0), policies, size(len(policies))]
         words += [ctypes.byref(settings), size(ctypes.sizeof(settings)), self.out, size(len(self.out)), ctypes.byref(answer)]
+        words += [(PathCertificate * len(path))(), size(len(path))]
         return lambda: self.call(*words), answer
 
     def policies(self, answer):

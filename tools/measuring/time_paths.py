@@ -1,6 +1,6 @@
 #!/usr/bin/env python3
-"""Times `x509_path_validate_under_key` over growing paths, policies and name constraints, to show that its work grows as the bytes do, and that no path brings
-it down: signatures are for the caller, so none is made.
+"""Times `x509_path_validate_views_under_key` over growing paths, policies and name constraints, to show that its work grows as the bytes do, and that no path
+brings it down: signatures are for the caller, so none is made.
 
 LIBRARY is `libx509.so`, as `tools/build/link_c_library.sh` makes it. For each kind of path it prints how many certificates there are, how many bytes, and the
 milliseconds of the fastest of five calls, in processor time. What is answered has to be what is stated here: the path is valid, under so many policies.

@@ -8,11 +8,11 @@ dates. Who answers both rightly gets a figure; else it says who refuses the vali
 A figure is a tenth of the difference of runs that ask once and 11 times, or, where asking takes over 30 milliseconds, the difference of runs that don't ask and
 that ask once. What is spent in, and below, the functions that check signatures and make keys for that isn't counted: OpenSSL's ASN1_item_verify_ex and
 OSSL_DECODER_..; mbedtls_pk_verify_ext, mbedtls_md and mbedtls_pk_parse_subpubkey; Go's checkSignature and parsePublicKey; ring's VerificationAlgorithm::verify.
-The library does neither: its figure is that of x509_path_validate, and of the calls that say what is to be verified of each certificate, and under which key.
+The library does neither: its figure is that of x509_path_validate_views, which also says what is to be verified of each certificate, and under which key.
 It decodes the anchor each time; the others decode it once.
 
-Then come paths that grow, each size twice the one before, with x509_path_validate and x509_path_check: the instructions of each size, and in brackets how many
-times those of the size before they are. 2 is linear; n log n of these sizes gives at most 2.4.
+Then come paths that grow, each size twice the one before, with x509_path_validate_views and x509_path_check: the instructions of each size, and in brackets how
+many times those of the size before they are. 2 is linear; n log n of these sizes gives at most 2.4.
 
 The programs are `validating.c`, `validating_openssl.c` and `validating_mbedtls.c`, compiled here by $CC, `validating.go`, and `validating.rs`, by cargo over
 Debian's librust-webpki-dev, without a network. Go runs without its collector. What isn't installed is left out, with a line that says so.
@@ -124,7 +124,7 @@ def compare(asker, folder, labels):
 
 def grow(asker, folder, labels):
     """The table of what grows."""
-    print("| What grows | sizes | bytes of the largest | `x509_path_validate` | `x509_path_check` |\n|---|---|--:|---|---|", flush=True)
+    print("| What grows | sizes | bytes of the largest | `x509_path_validate_views` | `x509_path_check` |\n|---|---|--:|---|---|", flush=True)
     for label, text, make, sizes in GROWING:
         if labels and label not in labels:
             continue

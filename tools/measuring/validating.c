@@ -1,11 +1,11 @@
 /* Validates paths by the C library, for counts of instructions: time_validating.py compiles and runs it, with the path of the library in the environment as
  * LIBRARY. WHAT is
  *
- *   path   x509_path_validate of the certificates, which are first put one after the other, and then of each what is to be verified and under which key:
- *          x509_certificate_signature, and x509_certificate_view of the one above. Nothing is verified
+ *   path   x509_path_validate_views of the certificates, which are first put one after the other: it says of each what is to be verified and under which key;
+ *          that of the anchor is found once, by x509_certificate_view. Nothing is verified
  *   crl    the same, and then whether the CRL says that the last is revoked: x509_crl_view, x509_may_sign_crls, x509_revocation_status
  *   again  x509_crl_index_find alone, of the serial number of the last, in a CRL whose index is there
- *   check  x509_path_check in place of x509_path_validate, alone
+ *   check  x509_path_check in place of x509_path_validate_views
  *
  * linked with -ldl */
 #include <dlfcn.h>
@@ -15,6 +15,8 @@
 static void *library;
 static uint8_t *whole; /* the path, and behind it the CRL */
 static size_t path_len, lens[MOST_CERTIFICATES];
+static x509_path_certificate told[MOST_CERTIFICATES];
+static octets anchor_key;
 static x509_crl list;
 static uint32_t *indexed;
 static size_t indexed_count;
@@ -31,9 +33,8 @@ static void *found_call(const char *name)
 }
 
 /* The calls that are counted, found once. */
-static __typeof__(x509_path_validate) *validate;
+static __typeof__(x509_path_validate_views) *validate;
 static __typeof__(x509_path_check) *check;
-static __typeof__(x509_certificate_signature) *signature_of;
 static __typeof__(x509_certificate_view) *view_of;
 static __typeof__(x509_crl_view) *crl_view_of;
 static __typeof__(x509_may_sign_crls) *may_sign;
@@ -42,9 +43,8 @@ static __typeof__(x509_crl_index_find) *find_by_index;
 
 static void prepare(void)
 {
-    validate = CALL(x509_path_validate);
+    validate = CALL(x509_path_validate_views);
     check = CALL(x509_path_check);
-    signature_of = CALL(x509_certificate_signature);
     view_of = CALL(x509_certificate_view);
     crl_view_of = CALL(x509_crl_view);
     may_sign = CALL(x509_may_sign_crls);
@@ -54,6 +54,9 @@ static void prepare(void)
         path_len += lens[at] = certificates[at].len;
     whole = malloc(path_len + crl.len + 1);
     must(whole != NULL, "too little memory");
+    x509_certificate view;
+    must(view_of(anchor.at, anchor.len, &view) == X509_OK, "no anchor");
+    anchor_key = (octets){anchor.at + view.subject_public_key_info.place, view.subject_public_key_info.len};
 }
 
 static void prepare_index(void)
@@ -83,20 +86,14 @@ static int refused(const char *call, int status, size_t place, unsigned reason)
     return 0;
 }
 
-/* Of each certificate what is to be verified, and under which key. */
+/* Whether there is something to be verified of each certificate, and a key to verify it with. */
 static int has_parts(void)
 {
-    x509_certificate above;
-    x509_signature signature;
-    x509_status status = view_of(anchor.at, anchor.len, &above);
-    const uint8_t *at = whole;
-    for (size_t place = 0; place < count && status == X509_OK; place++) {
-        status = signature_of(at, lens[place], &signature);
-        if (status == X509_OK && place + 1 < count)
-            status = view_of(at, lens[place], &above);
-        at += lens[place];
-    }
-    return status == X509_OK ? 1 : refused("a call for a signature", status, 0, 0);
+    size_t key_len = anchor_key.len;
+    for (size_t place = 0; place < count; key_len = told[place++].view.subject_public_key_info.len)
+        if (key_len == 0 || told[place].signature.signed_part.len == 0 || told[place].signature.algorithm.len == 0)
+            return refused("a part of a signature", X509_OK, place, 0);
+    return 1;
 }
 
 static int ask_path(void)
@@ -106,8 +103,8 @@ static int ask_path(void)
     x509_path_answer answer = {0};
     gather();
     const x509_status status = validate(anchor.at, anchor.len, whole, path_len, lens, count, NULL, 0, policies.at, policies.len, &settings, sizeof settings,
-                                        out, sizeof out, &answer);
-    return status == X509_OK ? has_parts() : refused("x509_path_validate", status, answer.place, answer.reason);
+                                        out, sizeof out, &answer, told, count);
+    return status == X509_OK ? has_parts() : refused("x509_path_validate_views", status, answer.place, answer.reason);
 }
 
 static int ask_check(void)
@@ -125,19 +122,17 @@ static int ask_crl(void)
     must(count > 1, "a CRL, and no issuer in the path");
     memcpy(whole + path_len, crl.at, crl.len);
     const size_t last = path_len - lens[count - 1], above = last - lens[count - 2];
-    x509_certificate issuer;
+    const x509_certificate *const issuer = &told[count - 2].view;
     x509_crl view;
     uint32_t is_signer = 0;
-    x509_status status = view_of(whole + above, lens[count - 2], &issuer);
-    if (status == X509_OK)
-        status = crl_view_of(whole + path_len, crl.len, &view);
+    x509_status status = crl_view_of(whole + path_len, crl.len, &view);
     if (status == X509_OK)
         status = may_sign(whole + above, lens[count - 2], &is_signer);
     if (status != X509_OK || !is_signer)
         return refused("a call for the CRL", status, 0, 0);
     const x509_signed_crl given = {{path_len, crl.len},
-                                   {above + issuer.subject.place, issuer.subject.len},
-                                   {above + issuer.subject_public_key_info.place, issuer.subject_public_key_info.len},
+                                   {above + issuer->subject.place, issuer->subject.len},
+                                   {above + issuer->subject_public_key_info.place, issuer->subject_public_key_info.len},
                                    1};
     const x509_revocation_settings settings = {.moment = MOMENT};
     x509_revocation_answer answer = {0};

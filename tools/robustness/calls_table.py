@@ -14,6 +14,8 @@ from common.header import HEADER, calls, statuses, structs, without_comments
 NUMBERS = ("uint32_t", "uint64_t", "size_t", "int32_t", "x509_status")
 # what answers no status has a test of its own in spoil_calls.c
 OTHERS = ("x509_version",)
+# what is said of each certificate of a path
+CERTIFICATE = "x509_path_certificate"
 
 
 def fields(kind, known, at="0"):
@@ -26,6 +28,11 @@ def fields(kind, known, at="0"):
         # an array is one number, however long it is
         found += [(place, f"{it.count} * sizeof({it.kind})", 0)] if it.count else fields(it.kind, known, place)
     return found
+
+
+def listed(found):
+    """Fields as C lists them."""
+    return ", ".join(f"{{{at}, {size}, {is_span}}}" for at, size, is_span in found)
 
 
 def row(call, number, known, numbers):
@@ -77,6 +84,10 @@ def row(call, number, known, numbers):
             rest.pop(0)
             words += ["a->places", "a->room"]
             flags.add("FINDS")
+        elif it.is_pointer and not it.is_const and it.kind == CERTIFICATE and behind is not None and behind.name == "certificate_room":
+            rest.pop(0)
+            words += ["a->certificates", "a->certificate_room"]
+            flags.add("VIEWS")
         elif it.is_pointer and not it.is_const and it.kind == "uint8_t" and behind is not None and behind.name == "room":
             words += ["a->out", "a->room"]
             if rest.pop(0).kind != "size_t" or not rest:
@@ -108,10 +119,11 @@ def row(call, number, known, numbers):
     if not call.statuses or not set(call.statuses) <= set(numbers):
         raise ValueError(f"{call.name}: it answers {call.statuses}")
     told = fields(output, known) if output else []
+    list_of_fields = listed(told) or "{0, 0, 0}"
     return "\n".join(
         (
             f"static x509_status call_{number}(const arguments *a) {{ return {call.name}({', '.join(words)}); }}",
-            f"static const field fields_{number}[] = {{{', '.join(f'{{{at}, {size}, {is_span}}}' for at, size, is_span in told) or '{0, 0, 0}'}}};",
+            f"static const field fields_{number}[] = {{{list_of_fields}}};",
             f"#define ROW_{number} {{\"{call.name}\", call_{number}, {{{', '.join(map(quoted, inputs)) or 'NULL'}}}, {len(inputs)}, "
             f"{{{', '.join(map(quoted, scalars)) or 'NULL'}}}, {len(scalars)}, {' | '.join(sorted(flags)) or '0'}, "
             f"{f'sizeof({output})' if output else '0'}, fields_{number}, {len(told)}, {' | '.join(f'ANSWERS({it})' for it in call.statuses)}}}",
@@ -132,6 +144,7 @@ def main():
         raise ValueError(f"prototypes that weren't read: {set(named) ^ {it.name for it in found}}")
     asked = [it for it in found if it.name not in OTHERS]
     print("/* Made by calls_table.py of x509.h. */")
+    print(f"static const field CERTIFICATE_FIELDS[] = {{{listed(fields(CERTIFICATE, known))}}};")
     for number, call in enumerate(asked):
         print(row(call, number, known, numbers))
     print(f"static const call CALLS[] = {{{', '.join(f'ROW_{number}' for number in range(len(asked)))}}};")

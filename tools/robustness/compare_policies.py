@@ -1,7 +1,7 @@
 #!/usr/bin/env python3
 """Compares ways to find the policies of a path on random chains: the valid policy tree of RFC 5280 6.1, built as the RFC's text says, the leaves of that
 tree, and one set of policies a certificate with the policies of the one above that lead to them; and, with --library, what the C library answers, by
-`x509_path_validate_under_key`.
+`x509_path_validate_views_under_key`.
 
     compare_policies.py [--chains N] [--seed S] [--library libx509.so]
 

@@ -73,7 +73,7 @@ static void wrong(const char *what, long number)
 
 /* ---- each call */
 
-enum { CALLS = 117 };
+enum { CALLS = 130 };
 
 static uint8_t certificate[65536], list[65536], request[65536], room[65536], signed_list[3 * 65536], searched[65536 + 10];
 static size_t certificate_len, list_len, request_len;
@@ -88,6 +88,7 @@ static struct {
     x509_signature signature;
     x509_path_fault fault;
     x509_path_answer answer;
+    x509_path_certificate certificates[2];
     x509_found_path path;
     x509_span part;
     x509_request_attribute wanted;
@@ -448,6 +449,38 @@ static x509_status call(int number)
     case 115:
         return x509_issuing_distribution_point_encode(&(x509_issuing_distribution_point_view){.indirect_crl = 1}, BYTES("\x82\x1e" THIRTY), NULL, 0, room,
                                                       sizeof room, &filled.count);
+    case 116:
+        return x509_path_validate_views(certificate, certificate_len, certificate, certificate_len, &certificate_len, 1, NULL, 0, NULL, 0, &FIRST_SECOND,
+                                        sizeof FIRST_SECOND, room, sizeof room, &filled.answer, filled.certificates, 2);
+    case 117:
+        return x509_path_validate_views_under_anchor(certificate, certificate_len, certificate, certificate_len, &certificate_len, 1, NULL, 0, BYTES(POLICIES),
+                                                     &FIRST_SECOND, sizeof FIRST_SECOND, room, sizeof room, &filled.answer, filled.certificates, 1);
+    case 118:
+        return x509_path_validate_views_under_key(certificate + own.subject.place, own.subject.len, certificate + own.subject_public_key_info.place,
+                                                  own.subject_public_key_info.len, certificate, certificate_len, &certificate_len, 1, BYTES(CONSTRAINTS),
+                                                  NULL, 0, &FIRST_SECOND, sizeof FIRST_SECOND, room, sizeof room, &filled.answer, filled.certificates, 1);
+    case 119:
+        return x509_cps_uri_encode(BYTES(THIRTY), room, sizeof room, &filled.count);
+    case 120:
+        return x509_numbers_encode(BYTES("\x05" THIRTY), (const size_t[]){1, 30}, 2, room, sizeof room, &filled.count);
+    case 121:
+        return x509_user_notice_encode(BYTES(THIRTY), BYTES("\x30\x20\x02\x1e" THIRTY), BYTES(THIRTY), room, sizeof room, &filled.count);
+    case 122:
+        return x509_policy_qualifier_encode(BYTES("\x2a\x03"), BYTES("\x04\x1e" THIRTY), room, sizeof room, &filled.count);
+    case 123:
+        return x509_policy_encode(BYTES("\x2a\x03"), BYTES("\x30\x24\x06\x02\x2a\x03\x04\x1e" THIRTY), room, sizeof room, &filled.count);
+    case 124:
+        return x509_certificate_policies_encode(BYTES("\x30\x2c\x06\x02\x2a\x03\x30\x26\x30\x24\x06\x02\x2a\x03\x04\x1e" THIRTY), room, sizeof room,
+                                                &filled.count);
+    case 125:
+        return x509_policy_mappings_encode(BYTES("\x30\x08\x06\x02\x2a\x03\x06\x02\x2a\x04\x30\x08\x06\x02\x2a\x05\x06\x02\x2a\x06"), room, sizeof room,
+                                           &filled.count);
+    case 126:
+        return x509_subject_directory_attributes_encode(BYTES("\x30\x26\x06\x02\x2a\x03\x31\x20\x04\x1e" THIRTY), room, sizeof room, &filled.count);
+    case 127:
+        return x509_request_attribute_encode(BYTES("\x2a\x03"), BYTES("\x04\x1e" THIRTY), room, sizeof room, &filled.count);
+    case 128:
+        return x509_timestamps_encode(BYTES("a" THIRTY), (const size_t[]){1, 30}, 2, room, sizeof room, &filled.count);
     default:
         /* in the first second of the validity */
         return x509_path_check(certificate, certificate_len, certificate, certificate_len, &certificate_len, 1, 1767323045, &filled.fault);

@@ -7,7 +7,8 @@
  *
  * Looked at is what the header says of all calls: the status is one of those that it lists for the call, and not X509_MEMORY; what is filled in is
  * unchanged where the status isn't X509_OK; places lie within the input; a walk moves on, and ends; a buffer of the length that was told is filled, one
- * byte less is X509_ROOM, `written` is unchanged by other statuses, and the bytes are the same each time; inputs are unchanged. Of 10,000 inputs or more
+ * byte less is X509_ROOM, `written` is unchanged by other statuses, and the bytes are the same each time; inputs are unchanged. What is said of each
+ * certificate of a path is what the calls about one say, and the path's answer is that of the call that says nothing of them. Of 10,000 inputs or more
  * each call has to accept some and to refuse some. With THREADS above 1 each thread asks all of that at the same time, and the answers have to be the same.
  *
  * It prints how many calls were made, and ends with 1 where one didn't answer as it should.
@@ -24,7 +25,7 @@
 #include "x509.h"
 
 enum { MOST_INPUTS = 10, MOST_NUMBERS = 8, MOST_LENS = 4, MOST_SPANS = 5, MOST_FIELDS = 32, MOST_THREADS = 64 };
-enum { HAS_LENS = 1, WRITES = 2, WALKS = 4, WRITES_ASIDE = 8, CARRIES = 16, HAS_CRLS = 32, FINDS = 64, INDEXES = 128, IS_BY_INDEX = 256 };
+enum { HAS_LENS = 1, WRITES = 2, WALKS = 4, WRITES_ASIDE = 8, CARRIES = 16, HAS_CRLS = 32, FINDS = 64, INDEXES = 128, IS_BY_INDEX = 256, VIEWS = 512 };
 
 /* statuses are from -2 to 9 */
 #define ANSWERS(status) (1u << ((status) + 2))
@@ -48,6 +49,8 @@ typedef struct {
     uint32_t *index;
     const uint32_t *by; /* an index */
     size_t by_count;
+    x509_path_certificate *certificates;
+    size_t certificate_room;
     uint8_t *out;
     size_t room, *written, *at;
     x509_span *issuer;
@@ -214,6 +217,13 @@ static const source SOURCES[] = {
     {"x509_names_equal", "b", "x509_name_text"},
     {"x509_authority_key_identifier_encode", "key_identifier", "x509_oid_text"},
     {"x509_authority_key_identifier_encode", "issuer", "x509_general_names_next"},
+    {NULL, "issuer_policy", "x509_oid_text"},
+    {NULL, "subject_policy", "x509_oid_text"},
+    {"x509_user_notice_encode", "organization", "x509_name_escape"},
+    {"x509_user_notice_encode", "numbers", "x509_numbers_next"},
+    {NULL, "qualifier", "x509_string_text"},
+    {NULL, "qualifiers", "kind:PolicyQualifierInfo"},
+    {NULL, "values", "x509_string_text"},
     {NULL, "type_id", "x509_oid_text"},
     {NULL, "method", "x509_oid_text"},
     {NULL, "location", "found:x509_general_names_next"},
@@ -292,7 +302,7 @@ static uint8_t *place(arena it, size_t len, int is_front)
 }
 
 typedef struct {
-    arena in[MOST_INPUTS], out, found, given;
+    arena in[MOST_INPUTS], out, found, given, certificates;
     octets kept[MOST_INPUTS]; /* the inputs once more */
     uint8_t copies[MOST_INPUTS][ARENA];
     uint64_t state, digest;
@@ -535,6 +545,77 @@ static x509_status ask_path(asker *by, arguments *with)
     return status;
 }
 
+/* Whether this is said of a certificate: that its parts lie within it, and what the calls about one certificate say. */
+static int is_said(asker *by, octets certificate, const x509_path_certificate *told)
+{
+    x509_path_certificate alone;
+    if (x509_certificate_view(certificate.bytes, certificate.len, &alone.view) != X509_OK ||
+        x509_certificate_signature(certificate.bytes, certificate.len, &alone.signature) != X509_OK)
+        return 0;
+    for (size_t at = 0; at < sizeof CERTIFICATE_FIELDS / sizeof *CERTIFICATE_FIELDS; at++) {
+        const field *it = &CERTIFICATE_FIELDS[at];
+        const uint8_t *said = (const uint8_t *)told + it->at;
+        by->digest = digest_of(by->digest, said, it->size);
+        if (memcmp(said, (const uint8_t *)&alone + it->at, it->size) != 0)
+            return 0;
+        x509_span span;
+        if (it->is_span)
+            memcpy(&span, said, sizeof span);
+        if (it->is_span && (span.place > certificate.len || span.len > certificate.len - span.place))
+            return 0;
+    }
+    return 1;
+}
+
+/* The call that asks the same and says nothing of certificates. */
+static const call *plain_call(const call *of)
+{
+    static const char views[] = "_views";
+    const char *at = strstr(of->name, views);
+    if (at == NULL)
+        stop(of->name);
+    const size_t front = (size_t)(at - of->name);
+    for (int number = 0; number < CALL_COUNT; number++)
+        if (strncmp(CALLS[number].name, of->name, front) == 0 && strcmp(CALLS[number].name + front, at + sizeof views - 1) == 0)
+            return &CALLS[number];
+    stop(of->name);
+    return NULL;
+}
+
+/* A call that says what the certificates of a valid path hold, where there is room for all, and else nothing; its answer is that of the plain one. */
+static x509_status ask_views(asker *by, arguments *with)
+{
+    const call *plain = plain_call(by->now);
+    const octets path = with->in[input_of(by->now, "path")];
+    x509_path_answer answer;
+    with->certificate_room = (size_t)below(&by->state, 4);
+    const size_t size = with->certificate_room * sizeof *with->certificates;
+    uint8_t *places = place(by->certificates, size, 0);
+    memset(places, 0xa5, size);
+    with->certificates = size == 0 && below(&by->state, 2) == 0 ? NULL : (x509_path_certificate *)(void *)places;
+    const x509_status status = ask(by, with);
+    const size_t filled = status == X509_OK && with->count <= with->certificate_room ? with->count : 0;
+    for (size_t at = 0, front = 0; at < filled; front += with->lens[at++])
+        if (!is_said(by, (octets){path.bytes + front, with->lens[at]}, &with->certificates[at]))
+            wrong(by, "other words of a certificate than alone", with, status);
+    for (size_t at = filled * sizeof *with->certificates; at < size; at++)
+        if (places[at] != 0xa5) {
+            wrong(by, "words of a certificate where there is no room, or no valid path", with, status);
+            break;
+        }
+    arguments again = *with;
+    again.found = &answer;
+    memset(&answer, 0xa5, sizeof answer);
+    if (plain->found_size != sizeof answer || by->now->found_size != sizeof answer)
+        stop("another answer");
+    if (plain->ask(&again) != status)
+        wrong(by, "another status than without words of certificates", with, status);
+    for (int at = 0; at < by->now->field_count; at++)
+        if (memcmp((const uint8_t *)&answer + by->now->fields[at].at, (const uint8_t *)with->found + by->now->fields[at].at, by->now->fields[at].size) != 0)
+            wrong(by, "another answer than without words of certificates", with, status);
+    return status;
+}
+
 static x509_status ask_any(asker *by, arguments *with, int is_front)
 {
     /* its alignment divides its size, and that of the pages */
@@ -553,7 +634,7 @@ static x509_status ask_any(asker *by, arguments *with, int is_front)
         return ask_index(by, with);
     if (by->now->flags & IS_BY_INDEX)
         return ask_by_index(by, with);
-    const x509_status status = ask(by, with);
+    const x509_status status = by->now->flags & VIEWS ? ask_views(by, with) : ask(by, with);
     if (status == X509_OK && (by->now->flags & HAS_CRLS) && by->now->number_count == 1) {
         uint32_t fault;
         memcpy(&fault, with->found, sizeof fault);
@@ -1041,6 +1122,8 @@ static void fill_pools(void)
             put(pool_of("kind:Attribute"), number);
         if (strcmp(it->kind, "GeneralSubtree") == 0)
             put(pool_of("kind:GeneralSubtree"), number);
+        if (strcmp(it->kind, "PolicyQualifierInfo") == 0)
+            put(pool_of("kind:PolicyQualifierInfo"), number);
         if (strcmp(it->kind, "Certificate") == 0 || strcmp(it->kind, "CertReq") == 0 || strcmp(it->kind, "CertificateList") == 0) {
             x509_crl crl;
             x509_request request;
@@ -1136,6 +1219,7 @@ static asker *new_asker(void)
     made->out = new_arena();
     made->found = new_arena();
     made->given = new_arena();
+    made->certificates = new_arena();
     return made;
 }
 

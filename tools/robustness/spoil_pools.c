@@ -1,4 +1,5 @@
-/* Finds paths over spoilt certificates, and compares what x509_path_find answers with what x509_path_validate says of every path.
+/* Finds paths over spoilt certificates, and compares what x509_path_find answers with what x509_path_validate_views says of every path; of a valid one that has
+ * to say of each certificate what x509_certificate_view and x509_certificate_signature do.
  *
  * FILES are the certificates of a path that is valid at MOMENT but for signatures, which aren't looked at: an anchor, those below it, and the last one. Each
  * octet of each is spoilt: one of its bits is turned, each in turn, it is left out or there twice, or the certificate ends in front of it. A spoilt certificate
@@ -216,8 +217,30 @@ static int is_linked(const pool *of, const path *it)
     return 1;
 }
 
+static int is_same_part(x509_span a, x509_span b)
+{
+    return a.place == b.place && a.len == b.len;
+}
+
+/* Whether the certificate says alone what is said of it in a path. */
+static int is_said(const member *it, const x509_path_certificate *told)
+{
+    const x509_certificate *a = &told->view, *b = &it->view;
+    const x509_signature *of = &told->signature;
+    x509_signature alone;
+    return it->is_decoded && x509_certificate_signature(it->it->bytes, it->it->len, &alone) == X509_OK && a->version == b->version &&
+           is_same_part(a->serial_number, b->serial_number) && is_same_part(a->issuer, b->issuer) && is_same_part(a->subject, b->subject) &&
+           is_same_part(a->subject_public_key_info, b->subject_public_key_info) && is_same_part(a->extensions, b->extensions) &&
+           a->not_before == b->not_before && a->not_after == b->not_after && is_same_part(a->inner_algorithm, b->inner_algorithm) &&
+           is_same_part(a->issuer_unique_id, b->issuer_unique_id) && a->issuer_unused_bits == b->issuer_unused_bits &&
+           is_same_part(a->subject_unique_id, b->subject_unique_id) && a->subject_unused_bits == b->subject_unused_bits &&
+           is_same_part(of->signed_part, alone.signed_part) && is_same_part(of->algorithm, alone.algorithm) && is_same_part(of->bits, alone.bits) &&
+           of->unused_bits == alone.unused_bits;
+}
+
 static x509_status validate(const pool *of, const path *it, x509_path_answer *answer)
 {
+    x509_path_certificate told[MOST_DEPTH + 1];
     size_t lens[MOST_DEPTH + 1], len = 0;
     for (size_t at = 0; at < it->count; at++)
         len += lens[at] = of->members[it->places[at]].span.len;
@@ -226,7 +249,12 @@ static x509_status validate(const pool *of, const path *it, x509_path_answer *an
         memcpy(front + place, of->members[it->places[at]].it->bytes, lens[at]);
     validated++;
     const octets *anchor = of->members[0].it;
-    return x509_path_validate(anchor->bytes, anchor->len, front, len, lens, it->count, NULL, 0, NULL, 0, &of->settings, sizeof of->settings, NULL, 0, answer);
+    const x509_status status = x509_path_validate_views(anchor->bytes, anchor->len, front, len, lens, it->count, NULL, 0, NULL, 0, &of->settings,
+                                                        sizeof of->settings, NULL, 0, answer, told, MOST_DEPTH + 1);
+    for (size_t at = 0; status == X509_OK && at < it->count; at++)
+        if (!is_said(&of->members[it->places[at]], &told[at]))
+            wrong("other words of a certificate than alone", of, status);
+    return status;
 }
 
 /* Whether the certificate is told to be bad under the key. */

@@ -105,10 +105,11 @@ class Refused(unittest.TestCase):
                 listed.add(line.split()[1].partition("(")[0])
         files = (top / "bindings/python/src/x509_cert").glob("*.py")
         source = "".join(it.read_text(encoding="utf-8") for it in files if it.name not in ("_header.py", "_library.py"))
-        # a text of Python is UTF-8, the lengths of a path and of purposes add up, and the parts of CRLs are within their bytes; a Merkle proof that fails is
-        # answered by False
-        others = {"x509_name_escape", "x509_path_check", "x509_path_validate_under_key", "x509_revocation_status", "x509_crl_fault"}
-        others |= {"x509_extended_key_usage_encode", "x509_merkle_inclusion", "x509_merkle_consistency"}
+        # a text of Python is UTF-8, the lengths of a path, of purposes, numbers and timestamps add up, and the parts of CRLs are within their bytes; a Merkle
+        # proof that fails is answered by False
+        others = {"x509_name_escape", "x509_path_check", "x509_path_validate_views_under_key", "x509_revocation_status", "x509_crl_fault"}
+        others |= {"x509_extended_key_usage_encode", "x509_numbers_encode", "x509_timestamps_encode", "x509_user_notice_encode"}
+        others |= {"x509_merkle_inclusion", "x509_merkle_consistency"}
         self.assertEqual({it for it in listed if f'"{it}"' in source} - others, set(x509.X509Error.CAUSES))
 
 

@@ -589,6 +589,31 @@ class Validation(unittest.TestCase):
                 wanted = [(key, ED25519, it.tbs_certificate_bytes, it.signature) for key, it in zip((KEY, OTHER_KEY), path)]
                 self.assertEqual(asked, wanted[: 2 if no_at is None else no_at + 1])
 
+    def test_each_certificate_says_what_it_says_alone(self) -> None:
+        # behind the key of the last one (RFC 5280 4.1) two unique identifiers, of 16 bits and of 14
+        old = server("a.example").public_bytes()
+        ids = bytes.fromhex("810300abcd" "8203021234")
+        front, _, behind = old.partition(KEY)
+        made = bytearray(front + KEY + ids + behind)
+        self.assertEqual((made[1], made[4]), (0x81, 0x81))
+        for at in (2, 5):
+            made[at] += len(ids)
+        path = [AUTHORITY, ours.Certificate(bytes(made))]
+        for anchor in (ROOT, ours.TrustAnchor(ROOT.public_bytes()), (name("CN=Root"), KEY)):
+            for given in (path, [it.public_bytes() for it in path]):
+                found = ours.validate_path(anchor, given, NOW, accepts).certificates
+                self.assertEqual(found, tuple(path))
+                self.assertEqual([self.said(it) for it in found], [self.said(it) for it in path])
+        self.assertEqual(found[1].subject_unique_id, (b"\x12\x34", 2))
+        self.assertEqual((found[0].public_key_bytes, found[0].not_valid_after_utc), (OTHER_KEY, NOW + SECOND))
+
+    @staticmethod
+    def said(it: ours.Certificate) -> tuple[object, ...]:
+        """All that its view and the view of its signature say."""
+        names = (it.version, it.serial_number, it.issuer, it.subject, it.issuer_unique_id, it.subject_unique_id)
+        parts = (it.not_valid_before_utc, it.not_valid_after_utc, it.public_key_bytes, it.inner_signature_algorithm_bytes)
+        signed = (it.signature_algorithm_bytes, it.signature, it.tbs_certificate_bytes)
+        return *names, *parts, *signed, list(it.extensions)
 
     def test_parameters_of_the_key_above(self) -> None:
         # keys of the algorithm 1.2.3.4, one with an INTEGER as its parameters (RFC 5280 6.1.4 (d) to (f))

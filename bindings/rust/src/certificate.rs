@@ -101,7 +101,11 @@ struct Parts {
 impl Parts {
     /// Those of a certificate, each within its bytes.
     fn of(der: &[u8]) -> Result<Parts, Error> {
-        let view = ffi::CERTIFICATE.of(der)?;
+        Parts::found(&ffi::CERTIFICATE.of(der)?, der)
+    }
+
+    /// Those that a call has found of these bytes.
+    fn found(view: &ffi::Certificate, der: &[u8]) -> Result<Parts, Error> {
         for span in [
             view.issuer,
             view.subject,
@@ -160,7 +164,17 @@ impl<'a> CertificateRef<'a> {
         Ok(CertificateRef { der, parts })
     }
 
-    /// A part, which [`Parts::of`] has found within the bytes.
+    /// The certificate of a path that a call has said this of, and what is to be verified of it.
+    pub(crate) fn found(
+        told: &ffi::PathCertificate,
+        der: &'a [u8],
+    ) -> Result<(CertificateRef<'a>, Signature<'a>), Error> {
+        let parts = Parts::found(&told.view, der)?;
+        let signature = Signature::found(&told.signature, der)?;
+        Ok((CertificateRef { der, parts }, signature))
+    }
+
+    /// A part, which [`Parts::found`] has found within the bytes.
     fn part(&self, span: Span) -> &'a [u8] {
         span.of(self.der).unwrap_or_default()
     }

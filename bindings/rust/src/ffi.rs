@@ -66,6 +66,8 @@ type ValidateCall = unsafe extern "C" fn(
     *mut u8,
     usize,
     *mut PathAnswer,
+    *mut PathCertificate,
+    usize,
 ) -> c_int;
 type ViewCall<T> = unsafe extern "C" fn(*const u8, usize, *mut T) -> c_int;
 type FindCall<T> = unsafe extern "C" fn(*const u8, usize, *const u8, usize, *mut T) -> c_int;
@@ -627,6 +629,13 @@ pub(crate) enum Trusted<'a> {
     NameAndKey(&'a [u8], &'a [u8]),
 }
 
+/// What is filled in of a path.
+struct Filled {
+    policies: Vec<u8>,
+    answer: PathAnswer,
+    certificates: Vec<PathCertificate>,
+}
+
 /// A path with what is asked of it.
 struct Question<'a> {
     trusted: Trusted<'a>,
@@ -639,42 +648,32 @@ struct Question<'a> {
 
 impl Question<'_> {
     /// The status of a call under a certificate or another trust anchor.
-    fn call(
-        &self,
-        call: ValidateCall,
-        anchor: &[u8],
-        out: &mut [u8],
-        answer: &mut PathAnswer,
-    ) -> c_int {
+    fn call(&self, call: ValidateCall, anchor: &[u8], to: &mut Filled) -> c_int {
         // SAFETY: the header lets the call read the slices, which are lent for it, `lens` of as many numbers as it is told and `settings` of the size that it
-        // is told, write into `out`, and fill in `answer`.
+        // is told, write into `policies` and `certificates` of the sizes that it is told, and fill in `answer`.
         unsafe {
             lent!(call: [anchor], [self.joined], [self.lens], [self.name_constraints], [self.policies], (&self.settings),
-                (size_of::<PathSettings>()), (out.as_mut_ptr()), (out.len()), (answer))
+                (size_of::<PathSettings>()), (to.policies.as_mut_ptr()), (to.policies.len()), (&mut to.answer), (to.certificates.as_mut_ptr()),
+                (to.certificates.len()))
         }
     }
 
     /// The status of the call under a name and a key.
-    fn call_under_key(
-        &self,
-        name: &[u8],
-        key: &[u8],
-        out: &mut [u8],
-        answer: &mut PathAnswer,
-    ) -> c_int {
+    fn call_under_key(&self, name: &[u8], key: &[u8], to: &mut Filled) -> c_int {
         // SAFETY: as of `call`.
         unsafe {
-            lent!(x509_path_validate_under_key: [name], [key], [self.joined], [self.lens], [self.name_constraints], [self.policies],
-                (&self.settings), (size_of::<PathSettings>()), (out.as_mut_ptr()), (out.len()), (answer))
+            lent!(x509_path_validate_views_under_key: [name], [key], [self.joined], [self.lens], [self.name_constraints], [self.policies],
+                (&self.settings), (size_of::<PathSettings>()), (to.policies.as_mut_ptr()), (to.policies.len()), (&mut to.answer),
+                (to.certificates.as_mut_ptr()), (to.certificates.len()))
         }
     }
 
-    /// The status with that buffer for the policies.
-    fn ask(&self, out: &mut [u8], answer: &mut PathAnswer) -> c_int {
+    /// The status with that room for the policies and the certificates.
+    fn ask(&self, to: &mut Filled) -> c_int {
         match self.trusted {
-            Trusted::Certificate(der) => self.call(x509_path_validate, der, out, answer),
-            Trusted::Anchor(der) => self.call(x509_path_validate_under_anchor, der, out, answer),
-            Trusted::NameAndKey(name, key) => self.call_under_key(name, key, out, answer),
+            Trusted::Certificate(der) => self.call(x509_path_validate_views, der, to),
+            Trusted::Anchor(der) => self.call(x509_path_validate_views_under_anchor, der, to),
+            Trusted::NameAndKey(name, key) => self.call_under_key(name, key, to),
         }
     }
 }
@@ -682,8 +681,15 @@ impl Question<'_> {
 /// Of what gives no trust; its caller says why.
 pub(crate) const NO_TRUST: Error = Error::OtherCertificate;
 
-/// What is answered to a path: the policies under which it is valid, as the DER of a CertificatePolicies, or its first fault, but those of signatures.
-pub(crate) type Judged = Result<Vec<u8>, PathFault>;
+/// What is said of a valid path: the policies under which it is valid, as the DER of a CertificatePolicies, and of each certificate what it says, and what is
+/// to be verified of it.
+pub(crate) struct ValidPath {
+    pub(crate) policies: Vec<u8>,
+    pub(crate) certificates: Vec<PathCertificate>,
+}
+
+/// What is answered to a path: what is said of a valid one, or its first fault, but those of signatures.
+pub(crate) type Judged = Result<ValidPath, PathFault>;
 
 /// What is answered to a path that is to be valid. Where there are no name constraints, these are no bytes; where any policies are accepted, so are these.
 pub(crate) fn path_validate(
@@ -701,20 +707,29 @@ pub(crate) fn path_validate(
         policies,
         settings,
     };
-    let mut out = vec![0; 256];
+    let mut filled = Filled {
+        policies: vec![0; 256],
+        answer: PathAnswer::default(),
+        certificates: vec![PathCertificate::default(); path.len()],
+    };
     loop {
-        let mut answer = PathAnswer::default();
-        match question.ask(&mut out, &mut answer) {
-            FAULT => {
-                return Ok(Err(PathFault {
-                    place: answer.place,
-                    reason: answer.reason,
-                }))
-            }
-            OK if answer.policies_len > out.len() => out.resize(answer.policies_len, 0),
+        let status = question.ask(&mut filled);
+        let PathAnswer {
+            place,
+            reason,
+            policies_len,
+            ..
+        } = filled.answer;
+        match status {
+            FAULT => return Ok(Err(PathFault { place, reason })),
+            OK if policies_len > filled.policies.len() => filled.policies.resize(policies_len, 0),
             status => {
-                out.truncate(answer.policies_len);
-                return accepted_or(NO_TRUST, status, Ok(out));
+                filled.policies.truncate(policies_len);
+                let valid = ValidPath {
+                    policies: filled.policies,
+                    certificates: filled.certificates,
+                };
+                return accepted_or(NO_TRUST, status, Ok(valid));
             }
         }
     }

@@ -181,8 +181,12 @@ pub(crate) fn is_signed(
     certificate: &CertificateRef<'_>,
     verifier: &impl Verifier,
 ) -> Result<bool, Error> {
-    let signature = certificate.signature()?;
-    Ok(signature.unused_bits == 0 && verifier.verify(key, &signature))
+    Ok(holds(key, &certificate.signature()?, verifier))
+}
+
+/// Whether the signature is one under the key. Its bits are whole octets.
+fn holds(key: &[u8], signature: &Signature<'_>, verifier: &impl Verifier) -> bool {
+    signature.unused_bits == 0 && verifier.verify(key, signature)
 }
 
 /// The certificates of a path, topmost first, where it holds at the moment under the subject and the key of the anchor's certificate, of which nothing else
@@ -220,7 +224,8 @@ pub fn check_path<'a, B: AsRef<[u8]>>(
     let path = slices(path);
     let found = ffi::path_check(anchor.as_der(), &path, seconds(moment)?)?;
     let key = anchor.subject_public_key_info();
-    let (certificates, _) = verified(key, path, found, verifier, |_above, key| Ok(key.to_vec()))?;
+    let below = |_above: &[u8], key: &[u8]| Ok(key.to_vec());
+    let (certificates, _) = verified(key, path, &[], found, verifier, below)?;
     Ok(certificates)
 }
 
@@ -238,11 +243,12 @@ fn slices<B: AsRef<[u8]>>(path: &[B]) -> Vec<&[u8]> {
     path.iter().map(AsRef::as_ref).collect()
 }
 
-/// The certificates of a path under a key, of which that is the first fault but those of signatures, and the last key; `below` says how a key is used under
-/// another.
+/// The certificates of a path under a key, of which that is the first fault but those of signatures, and the last key; `told` is what was said of the first
+/// certificates, and `below` says how a key is used under another.
 fn verified<'a>(
     key: &[u8],
     path: Vec<&'a [u8]>,
+    told: &[ffi::PathCertificate],
     found: Option<ffi::PathFault>,
     verifier: &impl Verifier,
     below: impl Fn(&[u8], &[u8]) -> Result<Vec<u8>, Error>,
@@ -264,8 +270,14 @@ fn verified<'a>(
         if matches!(found, Some(fault) if fault < of_signature) {
             break;
         }
-        let certificate = CertificateRef::from_der(der)?;
-        if !is_signed(&above, &certificate, verifier)? {
+        let (certificate, signature) = match told.get(place) {
+            Some(told) => CertificateRef::found(told, der)?,
+            None => {
+                let certificate = CertificateRef::from_der(der)?;
+                (certificate, certificate.signature()?)
+            }
+        };
+        if !holds(&above, &signature, verifier) {
             return Err(PathError::Fault(of_signature));
         }
         above = below(&above, certificate.subject_public_key_info())?;
@@ -634,15 +646,13 @@ pub(crate) fn validate_slices<'a>(
         Err(error) if error == ffi::NO_TRUST => Err(trusted.fault()?),
         judged => judged,
     }?;
-    let (certificates, key) = verified(
-        trusted.key(),
-        path,
-        judged.as_ref().err().copied(),
-        verifier,
-        working_key,
-    )?;
+    let (told, found) = match &judged {
+        Ok(valid) => (valid.certificates.as_slice(), None),
+        Err(fault) => (&[][..], Some(*fault)),
+    };
+    let (certificates, key) = verified(trusted.key(), path, told, found, verifier, working_key)?;
     let last = *certificates.last().ok_or(Error::Unexpected)?;
-    let policies = identifiers(&judged.map_err(|_| Error::Unexpected)?)?;
+    let policies = identifiers(&judged.map_err(|_| Error::Unexpected)?.policies)?;
     Ok(Validated {
         certificates,
         last,

@@ -2,7 +2,6 @@
 use crate::oid::ObjectIdentifier;
 
 pub(crate) const INTEGER: u8 = 0x02;
-pub(crate) const OCTET_STRING: u8 = 0x04;
 pub(crate) const NULL: u8 = 0x05;
 pub(crate) const OBJECT_IDENTIFIER: u8 = 0x06;
 pub(crate) const IA5_STRING: u8 = 0x16;
@@ -62,7 +61,7 @@ mod tests {
     #[test]
     fn lengths() {
         assert_eq!(element(SEQUENCE, b""), b"\x30\x00");
-        assert_eq!(element(OCTET_STRING, b"ab"), b"\x04\x02ab");
+        assert_eq!(element(0x04, b"ab"), b"\x04\x02ab");
         assert_eq!(element(4, &[7; 127])[..3], [4, 127, 7]);
         assert_eq!(element(4, &[7; 128])[..4], [4, 0x81, 128, 7]);
         assert_eq!(element(4, &[7; 256])[..5], [4, 0x82, 1, 0, 7]);

@@ -448,6 +448,73 @@ fn each_signature_is_for_the_key_above() {
     }
 }
 
+/// Two certificates, of which the last has two unique identifiers behind its key, of 16 bits and of 14 (RFC 5280 4.1).
+fn two() -> [Certificate; 2] {
+    let authority = certificate("CN=Root", "CN=CA", OTHER_KEY, &[&is_ca]);
+    let host = for_host("www.beispiel.example.org");
+    let server = certificate("CN=CA", "CN=S", KEY, &[&host]);
+    let ids = b"\x81\x03\x00\xab\xcd\x82\x03\x02\x12\x34";
+    let der = server.as_der();
+    // the key stands there once; the lengths of the certificate and of its signed part have two octets each
+    let places: Vec<usize> = (0..der.len())
+        .filter(|at| der[*at..].starts_with(KEY))
+        .collect();
+    let behind = places[0] + KEY.len();
+    let mut der = [&der[..behind], ids, &der[behind..]].concat();
+    assert_eq!((places.len(), der[1], der[4]), (1, 0x81, 0x81));
+    for at in [2, 5] {
+        der[at] += ids.len() as u8;
+    }
+    [
+        authority,
+        Certificate::from_der(der).expect("a certificate"),
+    ]
+}
+
+#[test]
+fn each_certificate_says_what_it_says_alone() {
+    fn said(it: CertificateRef<'_>) -> impl PartialEq + std::fmt::Debug + '_ {
+        let unique = (it.issuer_unique_id(), it.subject_unique_id());
+        let names = (it.issuer().to_string(), it.subject().to_string());
+        let key = it.subject_public_key_info();
+        let extensions: Vec<_> = it.extensions().map(|it| it.map(|it| it.oid())).collect();
+        let dates = (it.validity(), it.version(), it.inner_algorithm());
+        (it.serial_number(), names, dates, key, unique, extensions)
+    }
+    let settings = PathSettings::new(at(MOMENT));
+    let root = certificate("CN=Root", "CN=Root", KEY, &[&is_ca]);
+    let (certificates, subject) = (two(), name("CN=Root"));
+    let path: Vec<&[u8]> = certificates.iter().map(Certificate::as_der).collect();
+    let signatures: Vec<Signature<'_>> = certificates
+        .iter()
+        .map(|it| it.signature().expect("a signature"))
+        .collect();
+    let trusted = [
+        Trusted::Certificate(root.to_ref()),
+        Trusted::Anchor(TrustAnchor::from_der(root.as_der()).expect("an anchor")),
+        Trusted::NameAndKey {
+            name: subject.to_ref(),
+            subject_public_key_info: KEY,
+        },
+    ];
+    for trusted in trusted {
+        let asked = RefCell::new(0);
+        let verifier = |_: &[u8], signature: &Signature<'_>| {
+            let place = asked.replace_with(|it| *it + 1);
+            *signature == signatures[place]
+        };
+        let found = validate_path(trusted, &path, &settings, &verifier).expect("a path");
+        assert_eq!((found.certificates().len(), asked.into_inner()), (2, 2));
+        for (it, alone) in found.certificates().iter().zip(&certificates) {
+            assert_eq!(it.as_der(), alone.as_der());
+            assert_eq!(said(*it), said(alone.to_ref()));
+        }
+        let unique = found.certificate().subject_unique_id().expect("one");
+        assert_eq!((unique.bits, unique.unused_bits), (&b"\x12\x34"[..], 2));
+        assert_eq!(found.certificates()[0].subject_public_key_info(), OTHER_KEY);
+    }
+}
+
 fn purposes(of: &'static [ObjectIdentifier]) -> impl Fn(&mut CertificateBuilder) {
     move |builder| {
         let usage = ExtendedKeyUsage(of.to_vec());

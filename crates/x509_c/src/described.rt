@@ -2,8 +2,14 @@
 
 ghost use Rattle.std.specs.Prelude.{◌≡◌, nat_eq, not};
 ghost use Rattle.x509_c_calls.specs.Described.{AreBasicConstraints, ArePolicyConstraints, DescribesNone, EncodesDescribed, IsAuthorityKeyIdentifierOf, IsCrlNumber, IsExtendedKeyUsage, IsInhibitAnyPolicy, IsKeyUsage, IsSubjectKeyIdentifier, RefusesAuthorityKeyIdentifier, RefusesPurposes};
+ghost use Rattle.x509_c_calls.specs.DescribedAttributes.{IsRequestAttributeOf, RefusesRequestAttribute};
+ghost use Rattle.x509_c_calls.specs.DescribedMappings.{AreMappingsOf, RefusesMappings};
+ghost use Rattle.x509_c_calls.specs.DescribedNumbers.{AreNumbersOf, RefusesNumbers};
 ghost use Rattle.x509_c_calls.specs.DescribedParts.{AreNameConstraintsOf, EncodesList, IsAccessOf, IsMoment, IsNameOf, IsOtherNameOf, IsPeriodOf, IsReason, IsSubtreeOf, RefusesAccess, RefusesName, RefusesNameConstraints, RefusesOtherName};
 ghost use Rattle.x509_c_calls.specs.DescribedPoints.{EncodesWritten, IsIssuingPointOf, IsPointOf, RefusesIssuingPoint, RefusesPoint};
+ghost use Rattle.x509_c_calls.specs.DescribedPolicies.{IsMappingOf, IsNoticeOf, IsPolicyOf, IsQualifierOf, RefusesCpsUri, RefusesMapping, RefusesNotice, RefusesPolicy, RefusesQualifier};
+ghost use Rattle.x509_c_calls.specs.DescribedPolicyLists.{ArePoliciesOf, RefusesPolicies};
+ghost use Rattle.x509_c_calls.specs.DescribedTimestamps.{IsTimestampListOf, RefusesTimestampList};
 ghost use Rattle.x509_c_calls.specs.Status.{Fills, Tells};
 ghost use Rattle.x509_c_calls.specs.declared.status.status.Status.TheVariants.{Refused};
 ghost use Rattle.x509_der.specs.declared.error.ErrorKind.TheVariants.{Memory};
@@ -13,20 +19,25 @@ use std::alloc::Global;
 use x509_base::GeneralizedTime;
 use x509_c_calls::{
     BasicConstraintsView, IssuingDistributionPointView, PolicyConstraintsView,
-    PrivateKeyUsagePeriodView, access_encode, authority_key_identifier_encode, crl_number_encode,
-    distribution_point_encode, encode, extended_key_usage_encode, general_name_encode,
-    issuing_distribution_point_encode, list_encode, name_constraints_encode, other_name_encode,
-    subject_key_identifier_encode, subtree_encode,
+    PrivateKeyUsagePeriodView, access_encode, authority_key_identifier_encode, cps_uri_encode,
+    crl_number_encode, distribution_point_encode, encode, extended_key_usage_encode,
+    general_name_encode, issuing_distribution_point_encode, list_encode, mappings_encode,
+    name_constraints_encode, numbers_encode, other_name_encode, policies_encode, policy_encode,
+    policy_mapping_encode, policy_qualifier_encode, request_attribute_encode,
+    subject_key_identifier_encode, subtree_encode, timestamps_encode, user_notice_encode,
 };
-use x509_der::{Encode, Grammar};
+use x509_der::{Encode, Grammar, SequenceOf};
+use x509_ext::pkix::certpolicy::{CpsUri, PolicyInformation, PolicyQualifierInfo, UserNotice};
 use x509_ext::pkix::constraints::name::GeneralSubtree;
 use x509_ext::pkix::crl::dp::DistributionPoint;
 use x509_ext::pkix::name::GeneralName;
 use x509_ext::pkix::{
     AccessDescription, AuthorityKeyIdentifier, BasicConstraints, CrlNumber, CrlReason,
     ExtendedKeyUsage, InhibitAnyPolicy, IssuingDistributionPoint, KeyUsage, NameConstraints,
-    PolicyConstraints, PrivateKeyUsagePeriod, SubjectKeyIdentifier,
+    PolicyConstraints, PolicyMapping, PrivateKeyUsagePeriod, SubjectKeyIdentifier,
 };
+use x509_name::attr::Attribute;
+use x509_prim::{OctetString, Uint};
 
 /// Puts the encoding of the BasicConstraints that the view says at the front of the room.
 #[unsafe(no_mangle)]
@@ -259,6 +270,168 @@ pub extern "C" fn x509_info_access_encode(
         room.old room.new written.old written.new status) result }
 {
     list_encode::<AccessDescription>(alloc, descriptions, room, written).code()
+}
+
+/// Puts the encoding of the CPSuri with these octets at the front of the room.
+#[unsafe(no_mangle)]
+pub extern "C" fn x509_cps_uri_encode(
+    alloc: Global,
+    uri: &[u8],
+    room: &mut [u8],
+    written: &mut usize,
+) -> i32
+    ensures { Tells (λ status. Fills (EncodesDescribed ⟦<CpsUri as Grammar>⟧.form (λ text. text ≡ uri.now) (RefusesCpsUri uri.now))
+        room.old room.new written.old written.new status) result }
+{
+    cps_uri_encode(alloc, uri, room, written).code()
+}
+
+/// Puts the encoding of the SEQUENCE OF INTEGER with these numbers at the front of the room.
+#[unsafe(no_mangle)]
+pub extern "C" fn x509_numbers_encode(
+    alloc: Global,
+    octets: &[u8],
+    lens: &[usize],
+    room: &mut [u8],
+    written: &mut usize,
+) -> i32
+    ensures { Tells (λ status. Fills (EncodesDescribed ⟦<SequenceOf<Uint> as Grammar>⟧.form (AreNumbersOf octets.now lens.now) (RefusesNumbers octets.now lens.now))
+        room.old room.new written.old written.new status) result }
+{
+    numbers_encode(alloc, octets, lens, room, written).code()
+}
+
+/// Puts the encoding of the UserNotice with that reference and that text at the front of the room.
+#[unsafe(no_mangle)]
+pub extern "C" fn x509_user_notice_encode(
+    alloc: Global,
+    organization: &[u8],
+    numbers: &[u8],
+    text: &[u8],
+    room: &mut [u8],
+    written: &mut usize,
+) -> i32
+    ensures { Tells (λ status. Fills (EncodesDescribed ⟦<UserNotice as Grammar>⟧.form (IsNoticeOf organization.now numbers.now text.now)
+        (RefusesNotice organization.now numbers.now text.now)) room.old room.new written.old written.new status) result }
+{
+    user_notice_encode(alloc, organization, numbers, text, room, written).code()
+}
+
+/// Puts the encoding of the PolicyQualifierInfo of that type, with that qualifier, at the front of the room.
+#[unsafe(no_mangle)]
+pub extern "C" fn x509_policy_qualifier_encode(
+    alloc: Global,
+    oid: &[u8],
+    qualifier: &[u8],
+    room: &mut [u8],
+    written: &mut usize,
+) -> i32
+    ensures { Tells (λ status. Fills (EncodesDescribed ⟦<PolicyQualifierInfo as Grammar>⟧.form (IsQualifierOf oid.now qualifier.now)
+        (RefusesQualifier oid.now qualifier.now)) room.old room.new written.old written.new status) result }
+{
+    policy_qualifier_encode(alloc, oid, qualifier, room, written).code()
+}
+
+/// Puts the encoding of the PolicyInformation of that policy, with these qualifiers, at the front of the room.
+#[unsafe(no_mangle)]
+pub extern "C" fn x509_policy_encode(
+    alloc: Global,
+    oid: &[u8],
+    qualifiers: &[u8],
+    room: &mut [u8],
+    written: &mut usize,
+) -> i32
+    ensures { Tells (λ status. Fills (EncodesDescribed ⟦<PolicyInformation as Grammar>⟧.form (IsPolicyOf oid.now qualifiers.now)
+        (RefusesPolicy oid.now qualifiers.now)) room.old room.new written.old written.new status) result }
+{
+    policy_encode(alloc, oid, qualifiers, room, written).code()
+}
+
+/// Puts the encoding of the list of these policies at the front of the room.
+#[unsafe(no_mangle)]
+pub extern "C" fn x509_certificate_policies_encode(
+    alloc: Global,
+    policies: &[u8],
+    room: &mut [u8],
+    written: &mut usize,
+) -> i32
+    ensures { Tells (λ status. Fills (EncodesDescribed ⟦<SequenceOf<PolicyInformation> as Grammar>⟧.form (ArePoliciesOf policies.now) (RefusesPolicies policies.now))
+        room.old room.new written.old written.new status) result }
+{
+    policies_encode(alloc, policies, room, written).code()
+}
+
+/// Puts the encoding of the pair of these two policies at the front of the room.
+#[unsafe(no_mangle)]
+pub extern "C" fn x509_policy_mapping_encode(
+    issuer: &[u8],
+    subject: &[u8],
+    room: &mut [u8],
+    written: &mut usize,
+) -> i32
+    ensures { Tells (λ status. Fills (EncodesDescribed ⟦<PolicyMapping as Grammar>⟧.form (IsMappingOf issuer.now subject.now)
+        (RefusesMapping issuer.now subject.now)) room.old room.new written.old written.new status
+        × (status ≡ Refused Memory → ⊥)) result }
+{
+    policy_mapping_encode(issuer, subject, room, written).code()
+}
+
+/// Puts the encoding of the list of these pairs of policies at the front of the room.
+#[unsafe(no_mangle)]
+pub extern "C" fn x509_policy_mappings_encode(
+    alloc: Global,
+    mappings: &[u8],
+    room: &mut [u8],
+    written: &mut usize,
+) -> i32
+    ensures { Tells (λ status. Fills (EncodesDescribed ⟦<SequenceOf<PolicyMapping> as Grammar>⟧.form (AreMappingsOf mappings.now) (RefusesMappings mappings.now))
+        room.old room.new written.old written.new status) result }
+{
+    mappings_encode(alloc, mappings, room, written).code()
+}
+
+/// Puts the encoding of the Attribute of that type, with the set of these values, at the front of the room.
+#[unsafe(no_mangle)]
+pub extern "C" fn x509_request_attribute_encode(
+    alloc: Global,
+    oid: &[u8],
+    values: &[u8],
+    room: &mut [u8],
+    written: &mut usize,
+) -> i32
+    ensures { Tells (λ status. Fills (EncodesDescribed ⟦<Attribute as Grammar>⟧.form (IsRequestAttributeOf oid.now values.now)
+        (RefusesRequestAttribute oid.now values.now)) room.old room.new written.old written.new status) result }
+{
+    request_attribute_encode(alloc, oid, values, room, written).code()
+}
+
+/// Puts the encoding of the list of these attributes of a subject at the front of the room.
+#[unsafe(no_mangle)]
+pub extern "C" fn x509_subject_directory_attributes_encode(
+    alloc: Global,
+    attributes: &[u8],
+    room: &mut [u8],
+    written: &mut usize,
+) -> i32
+    ensures { Tells (λ status. Fills (EncodesList ⟦<Attribute as Grammar>⟧.form ⟦<Attribute as Encode>⟧.writing ⟦<Attribute as Grammar>⟧.refuses attributes.now)
+        room.old room.new written.old written.new status) result }
+{
+    list_encode::<Attribute>(alloc, attributes, room, written).code()
+}
+
+/// Puts the encoding of the SignedCertificateTimestampList, an OCTET STRING, of these timestamps at the front of the room.
+#[unsafe(no_mangle)]
+pub extern "C" fn x509_timestamps_encode(
+    alloc: Global,
+    timestamps: &[u8],
+    lens: &[usize],
+    room: &mut [u8],
+    written: &mut usize,
+) -> i32
+    ensures { Tells (λ status. Fills (EncodesDescribed ⟦<OctetString as Grammar>⟧.form (IsTimestampListOf timestamps.now lens.now)
+        (RefusesTimestampList timestamps.now lens.now)) room.old room.new written.old written.new status) result }
+{
+    timestamps_encode(alloc, timestamps, lens, room, written).code()
 }
 
 /// Puts the encoding of the GeneralSubtree with that base at the front of the room.

@@ -1,5 +1,6 @@
 //! Checking, validating and finding a path of certificates.
 
+ghost use Rattle.std.specs.Prelude.{[]};
 ghost use Rattle.x509_c_calls.specs.PathFinding.{FindsPath};
 ghost use Rattle.x509_c_calls.specs.PathValidation.{ValidatesUnderAnchor, ValidatesUnderCertificate, ValidatesUnderKey};
 ghost use Rattle.x509_c_calls.specs.Paths.{ChecksPath};
@@ -8,8 +9,8 @@ ghost use Rattle.x509_c_calls.specs.Status.{Tells};
 use std::alloc::Global;
 use x509_base::{Rfc5280, SubjectPublicKeyInfo};
 use x509_c_calls::{
-    BadLink, Fault, FoundPath, PathAnswer, PathQuestion, PathSearch, Span, path_check, path_find,
-    path_validate, path_validate_under_anchor, path_validate_under_key,
+    BadLink, Fault, FoundPath, PathAnswer, PathCertificate, PathQuestion, PathSearch, Span,
+    path_check, path_find, path_validate, path_validate_under_anchor, path_validate_under_key,
 };
 use x509_cert::certificate::CertificateInner;
 use x509_der::Grammar;
@@ -51,7 +52,8 @@ pub extern "C" fn x509_path_validate(
     ensures { Tells (λ status. ValidatesUnderCertificate ⟦<CertificateInner<Rfc5280> as Grammar>⟧.refuses ⟦<NameConstraints as Grammar>⟧.refuses
         ⟦<CertificatePolicies as Grammar>⟧.refuses anchor.now
         (record { path = path.entry; lens = lens.entry; name_constraints = name_constraints.entry; policies = policies.entry; settings = settings.entry })
-        (record { room = room.old; answer = answer.old }) (record { room = room.new; answer = answer.new }) status) result }
+        (record { room = room.old; answer = answer.old; certificates = [] }) (record { room = room.new; answer = answer.new; certificates = [] }) status)
+        result }
 {
     let question = PathQuestion {
         path,
@@ -60,7 +62,7 @@ pub extern "C" fn x509_path_validate(
         policies,
         settings,
     };
-    path_validate(alloc, anchor, &question, room, answer).code()
+    path_validate(alloc, anchor, &question, room, answer, &mut []).code()
 }
 
 /// The same under a name and a public key that are trusted.
@@ -80,7 +82,8 @@ pub extern "C" fn x509_path_validate_under_key(
     ensures { Tells (λ status. ValidatesUnderKey ⟦<Name as Grammar>⟧.refuses ⟦<SubjectPublicKeyInfo as Grammar>⟧.refuses ⟦<NameConstraints as Grammar>⟧.refuses
         ⟦<CertificatePolicies as Grammar>⟧.refuses name.now key.now
         (record { path = path.entry; lens = lens.entry; name_constraints = name_constraints.entry; policies = policies.entry; settings = settings.entry })
-        (record { room = room.old; answer = answer.old }) (record { room = room.new; answer = answer.new }) status) result }
+        (record { room = room.old; answer = answer.old; certificates = [] }) (record { room = room.new; answer = answer.new; certificates = [] }) status)
+        result }
 {
     let question = PathQuestion {
         path,
@@ -89,7 +92,7 @@ pub extern "C" fn x509_path_validate_under_key(
         policies,
         settings,
     };
-    path_validate_under_key(alloc, name, key, &question, room, answer).code()
+    path_validate_under_key(alloc, name, key, &question, room, answer, &mut []).code()
 }
 
 /// The same under what a trust anchor gives that is trusted.
@@ -107,7 +110,8 @@ pub extern "C" fn x509_path_validate_under_anchor(
 ) -> i32
     ensures { Tells (λ status. ValidatesUnderAnchor ⟦<NameConstraints as Grammar>⟧.refuses ⟦<CertificatePolicies as Grammar>⟧.refuses anchor.now
         (record { path = path.entry; lens = lens.entry; name_constraints = name_constraints.entry; policies = policies.entry; settings = settings.entry })
-        (record { room = room.old; answer = answer.old }) (record { room = room.new; answer = answer.new }) status) result }
+        (record { room = room.old; answer = answer.old; certificates = [] }) (record { room = room.new; answer = answer.new; certificates = [] }) status)
+        result }
 {
     let question = PathQuestion {
         path,
@@ -116,7 +120,97 @@ pub extern "C" fn x509_path_validate_under_anchor(
         policies,
         settings,
     };
-    path_validate_under_anchor(alloc, anchor, &question, room, answer).code()
+    path_validate_under_anchor(alloc, anchor, &question, room, answer, &mut []).code()
+}
+
+/// As [`x509_path_validate`], and of a valid path what each certificate says, and what is to be verified of it, is filled in where all fit.
+#[unsafe(no_mangle)]
+pub extern "C" fn x509_path_validate_views(
+    alloc: Global,
+    anchor: &[u8],
+    path: &[u8],
+    lens: &[usize],
+    name_constraints: &[u8],
+    policies: &[u8],
+    settings: &[u8],
+    room: &mut [u8],
+    answer: &mut PathAnswer,
+    certificates: &mut [PathCertificate],
+) -> i32
+    ensures { Tells (λ status. ValidatesUnderCertificate ⟦<CertificateInner<Rfc5280> as Grammar>⟧.refuses ⟦<NameConstraints as Grammar>⟧.refuses
+        ⟦<CertificatePolicies as Grammar>⟧.refuses anchor.now
+        (record { path = path.entry; lens = lens.entry; name_constraints = name_constraints.entry; policies = policies.entry; settings = settings.entry })
+        (record { room = room.old; answer = answer.old; certificates = certificates.old }) (record { room = room.new; answer = answer.new; certificates = certificates.new }) status)
+        result }
+{
+    let question = PathQuestion {
+        path,
+        lens,
+        name_constraints,
+        policies,
+        settings,
+    };
+    path_validate(alloc, anchor, &question, room, answer, certificates).code()
+}
+
+/// The same again, under a name and a public key that are trusted.
+#[unsafe(no_mangle)]
+pub extern "C" fn x509_path_validate_views_under_key(
+    alloc: Global,
+    name: &[u8],
+    key: &[u8],
+    path: &[u8],
+    lens: &[usize],
+    name_constraints: &[u8],
+    policies: &[u8],
+    settings: &[u8],
+    room: &mut [u8],
+    answer: &mut PathAnswer,
+    certificates: &mut [PathCertificate],
+) -> i32
+    ensures { Tells (λ status. ValidatesUnderKey ⟦<Name as Grammar>⟧.refuses ⟦<SubjectPublicKeyInfo as Grammar>⟧.refuses ⟦<NameConstraints as Grammar>⟧.refuses
+        ⟦<CertificatePolicies as Grammar>⟧.refuses name.now key.now
+        (record { path = path.entry; lens = lens.entry; name_constraints = name_constraints.entry; policies = policies.entry; settings = settings.entry })
+        (record { room = room.old; answer = answer.old; certificates = certificates.old }) (record { room = room.new; answer = answer.new; certificates = certificates.new }) status)
+        result }
+{
+    let question = PathQuestion {
+        path,
+        lens,
+        name_constraints,
+        policies,
+        settings,
+    };
+    path_validate_under_key(alloc, name, key, &question, room, answer, certificates).code()
+}
+
+/// The same again, under what a trust anchor gives that is trusted.
+#[unsafe(no_mangle)]
+pub extern "C" fn x509_path_validate_views_under_anchor(
+    alloc: Global,
+    anchor: &[u8],
+    path: &[u8],
+    lens: &[usize],
+    name_constraints: &[u8],
+    policies: &[u8],
+    settings: &[u8],
+    room: &mut [u8],
+    answer: &mut PathAnswer,
+    certificates: &mut [PathCertificate],
+) -> i32
+    ensures { Tells (λ status. ValidatesUnderAnchor ⟦<NameConstraints as Grammar>⟧.refuses ⟦<CertificatePolicies as Grammar>⟧.refuses anchor.now
+        (record { path = path.entry; lens = lens.entry; name_constraints = name_constraints.entry; policies = policies.entry; settings = settings.entry })
+        (record { room = room.old; answer = answer.old; certificates = certificates.old }) (record { room = room.new; answer = answer.new; certificates = certificates.new }) status)
+        result }
+{
+    let question = PathQuestion {
+        path,
+        lens,
+        name_constraints,
+        policies,
+        settings,
+    };
+    path_validate_under_anchor(alloc, anchor, &question, room, answer, certificates).code()
 }
 
 /// Finds a path from one of the anchors over candidates to a certificate, apart from the signatures, of which those are listed that don't

@@ -57,8 +57,11 @@ pub mod PeerAnswers
 pub mod LeafParts
 pub mod ChainWalks
 pub mod FoundPlaces
+pub mod LentCertificates
 pub mod SearchLimits
 pub mod BadLinks
 pub mod DescribedLists
 pub mod DescribedNames
 pub mod DescribedOids
+pub mod DescribedNumbers
+pub mod DescribedTimestamps

@@ -1,14 +1,11 @@
 -- The policies of a CertificatePolicies are OIDs.
-use Rattle.std.proofs.Common.{◌≡◌, true, List, [], ◌∷◌, ℕ, None, Some, Option, refl, subst, sym}
+use Rattle.std.proofs.Common.{◌≡◌, true, List, [], ◌∷◌, ℕ, None, Some, Option, refl}
 use Rattle.std.proofs.lemmas.List.Elements.{All-cons, All-nil}
-use Rattle.std.specs.List.{All}
 use Rattle.x509_c_calls.specs.PathValidation.{AreNamed, set_of}
-use Rattle.x509_der.specs.Form.{Spells}
 use Rattle.x509_der.specs.Frames.{fields_good}
 use Rattle.x509_der.specs.List.{all_good}
 use Rattle.x509_der.specs.ObjectIdentifier.{is_object_identifier}
 use Rattle.x509_der.specs.ObjectIdentifierForm.{arcs_pass}
-use Rattle.x509_ext.specs.CertificatePolicies.{certificate_policies}
 use Rattle.x509_ext.specs.PolicyInformation.{policy_information, policy_information_fields}
 use Rattle.x509_ext.specs.declared.pkix.certificate_policies.CertificatePolicies.{CertificatePolicies}
 use Rattle.x509_ext.specs.declared.pkix.policy_information.PolicyInformation.{PolicyInformation}

@@ -65,6 +65,12 @@ pub mod Policies
 pub mod Described
 pub mod DescribedParts
 pub mod DescribedPoints
+pub mod DescribedPolicies
+pub mod DescribedPolicyLists
+pub mod DescribedMappings
+pub mod DescribedNumbers
+pub mod DescribedAttributes
+pub mod DescribedTimestamps
 pub mod Notices
 pub mod Points
 pub mod Subtrees

@@ -1,17 +1,19 @@
 -- What a call leaves that validates a path of certificates apart from their signatures (RFC 5280 6.1).
 use Rattle.std.specs.Int.{from_le_bytes, to_le_bytes, w64}
-use Rattle.std.specs.List.{All, list_all}
-use Rattle.std.specs.Prelude.{◌≡◌, ◌≢◌, ◌==◌, ◌<◌, ◌≤◌, ◌+◌, ◌*◌, ◌/◌, ◌%◌, ◌^◌, ◌⊎◌, ℕ, Bool, false, true, cond, not, List, [], ◌∷◌, ◌++◌, drop, length, slice_index, take, Option, Some, None}
-use Rattle.x509_base.specs.CivilTime.{CivilTime, IsDateTime, last_date_time, unix_seconds}
+use Rattle.std.specs.List.{All, AllZip, list_all}
+use Rattle.std.specs.Prelude.{◌≡◌, ◌≢◌, ◌==◌, ◌<◌, ◌≤◌, ◌+◌, ◌*◌, ◌/◌, ◌%◌, ◌^◌, ◌⊎◌, ℕ, false, true, cond, not, List, [], ◌∷◌, ◌++◌, drop, length, slice_index, take, Option, Some, None}
+use Rattle.x509_base.specs.CivilTime.{IsDateTime, last_date_time, unix_seconds}
 use Rattle.x509_base.specs.SubjectPublicKeyInfo.{subject_public_key_info}
 use Rattle.x509_base.specs.declared.profile.Rfc5280.{Rfc5280}
 use Rattle.x509_c_calls.specs.PayloadExtensions.{flag}
 use Rattle.x509_c_calls.specs.Pieces.{AreCut}
 use Rattle.x509_c_calls.specs.Place.{IsAt}
 use Rattle.x509_c_calls.specs.Status.{IsPut}
-use Rattle.x509_c_calls.specs.View.{behind_key, behind_subject}
+use Rattle.x509_c_calls.specs.Signature.{IsSignature}
+use Rattle.x509_c_calls.specs.View.{IsView, behind_key, behind_subject}
 use Rattle.x509_c_calls.specs.declared.path.answer.PathAnswer.{PathAnswer}
 use Rattle.x509_c_calls.specs.declared.path.question.PathQuestion.{PathQuestion}
+use Rattle.x509_c_calls.specs.declared.path.views.PathCertificate.{PathCertificate}
 use Rattle.x509_c_calls.specs.declared.path.settings.AskedSettings.{AskedSettings}
 use Rattle.x509_c_calls.specs.declared.status.status.Status.{Status}
 use Rattle.x509_c_calls.specs.declared.status.status.Status.TheVariants as statuses
@@ -253,10 +255,24 @@ pub record IsFault (at : ℕ) (what : ValidationReason) (answer : PathAnswer) : 
   pub key : answer.key ≡ record { place = 0; len = 0 }
   pub policies_len : answer.policies_len ≡ 0
 
--- what a call leaves: the buffer and the answer
+-- what a certificate in these bytes says, and what is to be verified of it
+abbrev pub IsCertificateOf : List ℕ → PathCertificate → Type 0
+IsCertificateOf bytes found =
+    (certificate : Certificate) × Spells rfc5280_certificate certificate bytes × IsView bytes certificate found.view
+    × IsSignature bytes certificate found.signature
+
+-- what is filled into places of the certificates of a path: each, where all fit, else none
+abbrev pub PutsCertificates : List (List ℕ) → List PathCertificate → List PathCertificate → Type 0
+PutsCertificates path was is =
+    (length was < length path → is ≡ was)
+    × (length path ≤ length was
+    → (found : List PathCertificate) × AllZip IsCertificateOf path found × (is ≡ found ++ drop (length found) was))
+
+-- what a call leaves: the buffer, the answer, and the places of certificates
 pub record Left : Type 0 where
   pub room : List ℕ
   pub answer : PathAnswer
+  pub certificates : List PathCertificate
 
 -- What is left of a path of these inputs, where all bits are taken for signatures. Done: it is valid, and what it gives is filled in. Faulty: its first
 -- fault is. Absent: there is no certificate. Else the constraints of the caller or of what is trusted can't be used, the policies are too long, or memory
@@ -264,10 +280,11 @@ pub record Left : Type 0 where
 unfoldable pub TellsValidation : Inputs → List (List ℕ) → Left → Left → Status → Type 0
 TellsValidation inputs path was is statuses.Done =
     PathIsValid accept_all inputs path × IsSubjectOfLast path is.answer
+    × PutsCertificates path was.certificates is.certificates
     × (found : List Policy) × IsUnder inputs path found × AreTold (policies_octets found) was.room is.room is.answer.policies_len
 TellsValidation inputs path was is statuses.Faulty =
     (place : ℕ) × (reason : ValidationReason) × (AreUnusable inputs → ⊥) × IsFirstFault accept_all inputs path place reason
-    × IsFault place reason is.answer × (is.room ≡ was.room)
+    × IsFault place reason is.answer × (is.room ≡ was.room) × (is.certificates ≡ was.certificates)
 TellsValidation inputs path was is statuses.Absent = (path ≡ []) × (is ≡ was)
 TellsValidation inputs path was is (statuses.Refused e) =
     ((e ≡ kinds.Memory)

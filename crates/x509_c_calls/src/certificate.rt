@@ -8,6 +8,7 @@ mod whole;
 
 pub use dates::certificate_out_of_date;
 pub use extension::{ExtensionView, certificate_extension};
+pub(crate) use signature::signature_of;
 pub use signature::{SignatureView, certificate_signature};
 pub(crate) use view::view_of;
 pub use view::{CertificateView, is_written, seconds};

@@ -11,6 +11,7 @@ mod question;
 mod search;
 mod settings;
 mod validate;
+mod views;
 
 pub use answer::PathAnswer;
 pub use find::path_find;
@@ -20,3 +21,4 @@ pub use question::PathQuestion;
 pub use search::{BadLink, FoundPath, PathSearch};
 pub(crate) use settings::numbers_of;
 pub use validate::{path_validate, path_validate_under_anchor, path_validate_under_key};
+pub use views::PathCertificate;

@@ -2,11 +2,10 @@
 
 from __future__ import annotations
 
-import ctypes
 from typing import NamedTuple
 
 from ._der import SET, element
-from ._header import MALFORMED, RAW, ElementView
+from ._header import MALFORMED, ElementView
 from ._library import X509Error, fill, walk
 
 
@@ -31,11 +30,6 @@ def only(data: bytes, tag: int, what: str) -> Element:
     if len(found) != 1 or found[0].tag != tag:
         raise X509Error(what, MALFORMED)
     return found[0]
-
-
-def checked(kind: str, data: bytes) -> bytes:
-    """The same bytes, where the library decodes them as a value of the type with that name; an X509Error where it doesn't."""
-    return fill("x509_reencode", kind.encode("ascii"), ctypes.c_uint32(RAW), data)
 
 
 def text_of(data: bytes) -> str:

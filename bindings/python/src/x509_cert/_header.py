@@ -389,6 +389,13 @@ class PathAnswerView(Structure):
     _fields_ = [("place", c_size_t), ("reason", c_uint32), ("name", Span), ("key", Span), ("policies_len", c_size_t)]
 
 
+class PathCertificateView(Structure):
+    view: CertificateView
+    signature: SignatureView
+
+    _fields_ = [("view", CertificateView), ("signature", SignatureView)]
+
+
 class BadLinkView(Structure):
     certificate: Span
     key: Span
@@ -687,6 +694,17 @@ CALLS: dict[str, list[Any]] = {
     "x509_general_names_encode": [c_int, c_char_p, c_size_t, POINTER(c_uint8), c_size_t, POINTER(c_size_t)],
     "x509_access_encode": [c_int, c_char_p, c_size_t, c_char_p, c_size_t, POINTER(c_uint8), c_size_t, POINTER(c_size_t)],
     "x509_info_access_encode": [c_int, c_char_p, c_size_t, POINTER(c_uint8), c_size_t, POINTER(c_size_t)],
+    "x509_cps_uri_encode": [c_int, c_char_p, c_size_t, POINTER(c_uint8), c_size_t, POINTER(c_size_t)],
+    "x509_numbers_encode": [c_int, c_char_p, c_size_t, POINTER(c_size_t), c_size_t, POINTER(c_uint8), c_size_t, POINTER(c_size_t)],
+    "x509_user_notice_encode": [c_int, c_char_p, c_size_t, c_char_p, c_size_t, c_char_p, c_size_t, POINTER(c_uint8), c_size_t, POINTER(c_size_t)],
+    "x509_policy_qualifier_encode": [c_int, c_char_p, c_size_t, c_char_p, c_size_t, POINTER(c_uint8), c_size_t, POINTER(c_size_t)],
+    "x509_policy_encode": [c_int, c_char_p, c_size_t, c_char_p, c_size_t, POINTER(c_uint8), c_size_t, POINTER(c_size_t)],
+    "x509_certificate_policies_encode": [c_int, c_char_p, c_size_t, POINTER(c_uint8), c_size_t, POINTER(c_size_t)],
+    "x509_policy_mapping_encode": [c_int, c_char_p, c_size_t, c_char_p, c_size_t, POINTER(c_uint8), c_size_t, POINTER(c_size_t)],
+    "x509_policy_mappings_encode": [c_int, c_char_p, c_size_t, POINTER(c_uint8), c_size_t, POINTER(c_size_t)],
+    "x509_request_attribute_encode": [c_int, c_char_p, c_size_t, c_char_p, c_size_t, POINTER(c_uint8), c_size_t, POINTER(c_size_t)],
+    "x509_subject_directory_attributes_encode": [c_int, c_char_p, c_size_t, POINTER(c_uint8), c_size_t, POINTER(c_size_t)],
+    "x509_timestamps_encode": [c_int, c_char_p, c_size_t, POINTER(c_size_t), c_size_t, POINTER(c_uint8), c_size_t, POINTER(c_size_t)],
     "x509_subtree_encode": [c_int, c_char_p, c_size_t, POINTER(c_uint8), c_size_t, POINTER(c_size_t)],
     "x509_name_constraints_encode": [c_int, c_char_p, c_size_t, c_char_p, c_size_t, POINTER(c_uint8), c_size_t, POINTER(c_size_t)],
     "x509_distribution_point_encode": [
@@ -776,6 +794,68 @@ CALLS: dict[str, list[Any]] = {
         POINTER(c_uint8),
         c_size_t,
         POINTER(PathAnswerView),
+    ],
+    "x509_path_validate_views": [
+        c_int,
+        c_char_p,
+        c_size_t,
+        c_char_p,
+        c_size_t,
+        POINTER(c_size_t),
+        c_size_t,
+        c_char_p,
+        c_size_t,
+        c_char_p,
+        c_size_t,
+        POINTER(PathSettingsView),
+        c_size_t,
+        POINTER(c_uint8),
+        c_size_t,
+        POINTER(PathAnswerView),
+        POINTER(PathCertificateView),
+        c_size_t,
+    ],
+    "x509_path_validate_views_under_key": [
+        c_int,
+        c_char_p,
+        c_size_t,
+        c_char_p,
+        c_size_t,
+        c_char_p,
+        c_size_t,
+        POINTER(c_size_t),
+        c_size_t,
+        c_char_p,
+        c_size_t,
+        c_char_p,
+        c_size_t,
+        POINTER(PathSettingsView),
+        c_size_t,
+        POINTER(c_uint8),
+        c_size_t,
+        POINTER(PathAnswerView),
+        POINTER(PathCertificateView),
+        c_size_t,
+    ],
+    "x509_path_validate_views_under_anchor": [
+        c_int,
+        c_char_p,
+        c_size_t,
+        c_char_p,
+        c_size_t,
+        POINTER(c_size_t),
+        c_size_t,
+        c_char_p,
+        c_size_t,
+        c_char_p,
+        c_size_t,
+        POINTER(PathSettingsView),
+        c_size_t,
+        POINTER(c_uint8),
+        c_size_t,
+        POINTER(PathAnswerView),
+        POINTER(PathCertificateView),
+        c_size_t,
     ],
     "x509_path_find": [
         c_int,

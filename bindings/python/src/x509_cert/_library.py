@@ -39,9 +39,10 @@ class X509Error(ValueError):
         "x509_attribute_encode": "the attribute doesn't have that string type",
         "x509_crl_issued_next": "an entry has its issuer twice",
         "x509_request_extensions": "the attribute that asks for extensions hasn't one value",
-        "x509_path_validate": "the anchor has no name, or an extension twice",
+        "x509_path_validate_views": "the anchor has no name, or an extension twice",
         "x509_path_find": "an anchor has no name, or an extension twice",
-        "x509_path_validate_under_anchor": "the anchor has no name, an extension twice or one that would have to be followed, or the certificate of another",
+        "x509_path_validate_views_under_anchor": "the anchor has no name, an extension twice or one that would have to be followed, or the certificate of "
+        "another",
         "x509_build_root": "a root's subject has a country, an organization and a common name, in that order, each alone in its relative name; `sign` makes a "
         "root of any other name",
         "x509_build_device": "none of the names is that of a hardware module",

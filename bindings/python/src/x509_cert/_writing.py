@@ -8,6 +8,7 @@ import ipaddress
 from typing import Any, Iterable
 
 from ._der import OBJECT_IDENTIFIER, element
+from ._extension import natural_octets
 from ._given import octets, some, whole_seconds
 from ._header import (
     GENERAL_NAME_DIRECTORY,
@@ -46,6 +47,13 @@ def seconds_of(moment: datetime.datetime, what: str) -> int:
 
 def identifier_of(oid: ObjectIdentifier) -> bytes:
     return element(OBJECT_IDENTIFIER, oid.content)
+
+
+def numbers_der(numbers: Iterable[int], what: str) -> bytes:
+    """The DER of a SEQUENCE OF INTEGER, none of which is negative."""
+    members = [natural_octets(it, what) for it in numbers]
+    lens = (ctypes.c_size_t * len(members))(*map(len, members))
+    return fill("x509_numbers_encode", b"".join(members), lens, ctypes.c_size_t(len(members)))
 
 
 _TEXTS: dict[type[GeneralName], int] = {RFC822Name: GENERAL_NAME_EMAIL, DNSName: GENERAL_NAME_DNS, UniformResourceIdentifier: GENERAL_NAME_URI}

@@ -5,12 +5,13 @@ from __future__ import annotations
 import ctypes
 import datetime
 import enum
+import functools
 import importlib
 import secrets
 from typing import Any, NamedTuple, Sequence
 
 from ._given import der_of, instance, no_backend, octets
-from ._header import ABSENT, FAULT, OK, RAW, RFC5280, CertificateView, PathFaultView, SignatureView, Span
+from ._header import ABSENT, FAULT, OK, RAW, RFC5280, CertificateView, PathCertificateView, PathFaultView, SignatureView, Span
 from ._keyed import Keyed
 from ._library import X509Error, fill, number, status_of, view
 from ._numbers import moment, whole_number
@@ -52,6 +53,13 @@ class Certificate(Keyed, Signed):
         self._data = octets(data, "a certificate")
         refuse_pem(self._data, "x509_certificate_view", "load_pem_x509_certificate")
         self._view: CertificateView = view("x509_certificate_view", CertificateView, self._data)
+
+    @classmethod
+    def _found(cls, data: bytes, told: PathCertificateView) -> Certificate:
+        """The certificate of a path that a call has said this of."""
+        it = cls.__new__(cls)
+        it._data, it._view, it._signature = data, told.view, told.signature
+        return it
 
     def canonical_bytes(self) -> bytes:
         """Its DER with the dates as RFC 5280 4.1.2.5 spells them. Where that isn't how they stood, the signature doesn't hold of these bytes."""
@@ -148,7 +156,7 @@ class Certificate(Keyed, Signed):
         A certificate of `cryptography` is taken too."""
         return fill("x509_logged_precertificate_signed_by", self._data, certificate_of(signing, "the signing certificate").public_bytes())
 
-    @property
+    @functools.cached_property
     def _signature(self) -> SignatureView:
         return view("x509_certificate_signature", SignatureView, self._data)
 

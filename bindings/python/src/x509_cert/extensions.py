@@ -11,7 +11,7 @@ from typing import TYPE_CHECKING, Generic, Iterable, Iterator, Sequence, TypeVar
 
 from . import _cryptography
 from ._cryptography import AnyPublicKey
-from ._der import OCTET_STRING, element, integer
+from ._der import integer
 from ._extension import ExtensionType, ListExtension, _number, _part, natural_octets, optional_number
 from ._given import der_of, instance, listed, octets, some, whole
 from ._header import (
@@ -655,8 +655,9 @@ class PrecertificateSignedCertificateTimestamps(ListExtension[SignedCertificateT
 
     def __init__(self, signed_certificate_timestamps: Iterable[SignedCertificateTimestamp]) -> None:
         timestamps = some(signed_certificate_timestamps, SignedCertificateTimestamp, "timestamps")
-        members = b"".join(len(it.data).to_bytes(2, "big") + it.data for it in timestamps)
-        self._write(element(OCTET_STRING, len(members).to_bytes(2, "big"), members), timestamps=timestamps)
+        members = [it.data for it in timestamps]
+        lens = (ctypes.c_size_t * len(members))(*map(len, members))
+        self._write(fill("x509_timestamps_encode", b"".join(members), lens, ctypes.c_size_t(len(members))), timestamps=timestamps)
 
     def _read(self, data: bytes) -> None:
         super()._read(data)

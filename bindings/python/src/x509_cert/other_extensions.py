@@ -8,14 +8,14 @@ import datetime
 import enum
 from typing import Any, Iterable, Sequence
 
-from ._der import NULL, SEQUENCE, SET, element, integer
+from ._der import NULL, element
 from ._elements import only
 from ._extension import ExtensionType, ListExtension
 from ._given import instance, octets, some, whole_list
 from ._header import MALFORMED, ElementView, PrivateKeyUsagePeriodView, RequestAttributeView
 from ._library import X509Error, fill, seconds, view, walk
 from ._numbers import moment, natural_numbers
-from ._writing import general_names_der, identifier_of, seconds_of
+from ._writing import general_names_der, numbers_der, seconds_of
 from .general_name import GeneralName, GeneralNames
 from .oid import ExtensionOID, ObjectIdentifier
 
@@ -60,7 +60,7 @@ class TLSFeature(ListExtension["TLSFeatureType | int"]):
         numbers = whole_list(_numbered(features), "features")
         if not numbers:
             raise ValueError("features are one at least")
-        self._write(element(SEQUENCE, *map(integer, numbers)), features=[_feature(it) for it in numbers])
+        self._write(numbers_der(numbers, "a feature"), features=[_feature(it) for it in numbers])
 
     def _read(self, data: bytes) -> None:
         super()._read(data)
@@ -180,8 +180,8 @@ class SubjectDirectoryAttributes(ListExtension[DirectoryAttribute]):
 
     def __init__(self, attributes: Iterable[DirectoryAttribute]) -> None:
         given = some(attributes, DirectoryAttribute, "attributes")
-        members = [element(SEQUENCE, identifier_of(it.oid), element(SET, *it.values)) for it in given]
-        self._write(element(SEQUENCE, *members), attributes=given)
+        members = [fill("x509_request_attribute_encode", it.oid.content, b"".join(it.values)) for it in given]
+        self._write(fill("x509_subject_directory_attributes_encode", b"".join(members)), attributes=given)
 
     def _read(self, data: bytes) -> None:
         super()._read(data)

@@ -7,7 +7,7 @@ from typing import Callable, Iterable
 
 from . import _cryptography
 from ._given import octets, seconds
-from ._header import PATH_MOMENT, PATH_SIGNATURE
+from ._header import PATH_MOMENT, PATH_SIGNATURE, PathCertificateView
 from ._library import fill
 from .certificate import Certificate, certificate_of, path_fault
 from .key import AlgorithmIdentifier
@@ -54,7 +54,7 @@ def check_path(
     anchor = Certificate(_encoding(anchor, "the anchor"))
     given = _encodings(path)
     fault = path_fault(anchor.public_bytes(), given, begun)
-    certificates, _ = _verified(anchor.public_key_bytes, given, begun, fault, verify, lambda above, key: key)
+    certificates, _ = _verified(anchor.public_key_bytes, given, [], begun, fault, verify, lambda above, key: key)
     return certificates
 
 
@@ -82,10 +82,16 @@ def working_key(above: bytes, key: bytes) -> bytes:
 
 
 def _verified(
-    key: bytes, path: list[bytes], moment: int, fault: tuple[int, int] | None, verify: Verifier | None, below: Callable[[bytes, bytes], bytes]
+    key: bytes,
+    path: list[bytes],
+    told: list[PathCertificateView],
+    moment: int,
+    fault: tuple[int, int] | None,
+    verify: Verifier | None,
+    below: Callable[[bytes, bytes], bytes],
 ) -> tuple[list[Certificate], bytes]:
-    """The certificates of a path under a key, of which that is the first fault at the moment but those of signatures, and the last key; `below` says how a key is
-    used under another.
+    """The certificates of a path under a key, of which that is the first fault at the moment but those of signatures, and the last key; `told` is what was said
+    of each certificate, or nothing, and `below` says how a key is used under another.
 
     The first fault is that of the lowest place; of one place that with the lowest number.
     """
@@ -94,9 +100,9 @@ def _verified(
     for place, data in enumerate(path):
         if fault is not None and (place, SIGNATURE_FAULT) > fault:
             break
-        certificate = Certificate(data)
-        told = certificate._signature
-        if int(told.unused_bits) != 0 or not verify(key, told.algorithm.of(data), told.signed_part.of(data), told.bits.of(data)):
+        certificate = Certificate._found(data, told[place]) if told else Certificate(data)
+        signature = certificate._signature
+        if int(signature.unused_bits) != 0 or not verify(key, signature.algorithm.of(data), signature.signed_part.of(data), signature.bits.of(data)):
             raise PathFault(place, SIGNATURE_FAULT)
         certificates.append(certificate)
         key = below(key, certificate.public_key_bytes)

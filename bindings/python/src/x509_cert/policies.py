@@ -5,14 +5,14 @@ from __future__ import annotations
 import ctypes
 from typing import Iterable, Sequence
 
-from ._der import IA5_STRING, SEQUENCE, UTF8_STRING, element, integer
-from ._elements import checked, only, text_of
+from ._der import IA5_STRING
+from ._elements import only, text_of
 from ._extension import ExtensionType, ListExtension, _number, _part, number_of_32_bits, optional_number
 from ._given import instance, listed, octets, some, whole_list
 from ._header import PolicyConstraintsView, PolicyMappingView, PolicyQualifierView, PolicyView, Span, UserNoticeView
 from ._library import X509Error, fill, number, view, walk
 from ._numbers import natural_numbers
-from ._writing import identifier_of
+from ._writing import numbers_der
 from .oid import CertificatePoliciesOID, ExtensionOID, ObjectIdentifier
 
 
@@ -45,7 +45,7 @@ class CPSPointer(PolicyQualifier, str):
         scheme, colon, _ = uri.partition(":")
         if not uri.isascii() or not colon or not scheme[:1].isalpha():
             raise ValueError("a pointer to a practice statement is a URI (RFC 3986), of ASCII characters")
-        super().__init__(CertificatePoliciesOID.CPS_QUALIFIER, element(IA5_STRING, uri.encode("ascii")))
+        super().__init__(CertificatePoliciesOID.CPS_QUALIFIER, fill("x509_cps_uri_encode", uri.encode("ascii")))
 
     @classmethod
     def _of(cls, data: bytes) -> CPSPointer:
@@ -68,7 +68,7 @@ class NoticeReference:
     """Texts of an organization, by their numbers (RFC 5280 4.2.1.4)."""
 
     def __init__(self, organization: str, notice_numbers: Iterable[int]) -> None:
-        self.organization = instance(organization, str, "an organization")
+        self.organization = _shown(organization, "an organization")
         self.notice_numbers = whole_list(notice_numbers, "the numbers of notices")
 
     def __eq__(self, other: object) -> bool:
@@ -81,14 +81,15 @@ class NoticeReference:
     def __repr__(self) -> str:
         return f"<NoticeReference(organization={self.organization!r}, notice_numbers={self.notice_numbers!r})>"
 
-    def _der(self) -> bytes:
-        return element(SEQUENCE, _text(self.organization), element(SEQUENCE, *map(integer, self.notice_numbers)))
-
     @classmethod
     def _of(cls, found: UserNoticeView, data: bytes) -> NoticeReference | None:
         """That of a notice which was read, where it has one."""
         organization, numbers = _part(found.organization, data), _part(found.notice_numbers, data)
-        return None if organization is None else cls(text_of(organization), [] if numbers is None else natural_numbers(numbers))
+        if organization is None:
+            return None
+        made = cls.__new__(cls)
+        made.organization, made.notice_numbers = text_of(organization), [] if numbers is None else natural_numbers(numbers)
+        return made
 
 
 class UserNotice(PolicyQualifier):
@@ -97,12 +98,14 @@ class UserNotice(PolicyQualifier):
 
     def __init__(self, notice_reference: NoticeReference | None, explicit_text: str | None) -> None:
         self.notice_reference = None if notice_reference is None else instance(notice_reference, NoticeReference, "a reference")
-        self.explicit_text = None if explicit_text is None else instance(explicit_text, str, "a text")
-        if self.explicit_text is not None and not 0 < len(self.explicit_text) <= 200:
-            raise ValueError("a text has 1 to 200 characters (RFC 5280 4.2.1.4)")
-        reference = b"" if self.notice_reference is None else self.notice_reference._der()
-        text = b"" if self.explicit_text is None else _text(self.explicit_text)
-        super().__init__(CertificatePoliciesOID.CPS_USER_NOTICE, checked("UserNotice", element(SEQUENCE, reference, text)))
+        self.explicit_text = None if explicit_text is None else _shown(explicit_text, "a text")
+        organization, numbers = b"", b""
+        if self.notice_reference is not None:
+            # they are the caller's, who may have changed them
+            organization = _shown(self.notice_reference.organization, "an organization").encode("utf-8")
+            numbers = numbers_der(self.notice_reference.notice_numbers, "the number of a notice")
+        text = (self.explicit_text or "").encode("utf-8")
+        super().__init__(CertificatePoliciesOID.CPS_USER_NOTICE, fill("x509_user_notice_encode", organization, numbers, text))
 
     @classmethod
     def _of(cls, data: bytes) -> UserNotice:
@@ -119,9 +122,11 @@ class UserNotice(PolicyQualifier):
         return f"<UserNotice(notice_reference={self.notice_reference!r}, explicit_text={self.explicit_text!r})>"
 
 
-def _text(text: str) -> bytes:
-    """A DisplayText; a ValueError where a character has no UTF-8."""
-    return element(UTF8_STRING, text.encode("utf-8"))
+def _shown(text: str, what: str) -> str:
+    """A text that is shown to people; a ValueError where it is too long or empty."""
+    if not 0 < len(instance(text, str, what)) <= 200:
+        raise ValueError(f"{what} has 1 to 200 characters (RFC 5280 4.2.1.4)")
+    return text
 
 
 def _qualifier(oid: ObjectIdentifier, data: bytes | None) -> PolicyQualifier:
@@ -161,8 +166,8 @@ class PolicyInformation:
     def _der(self) -> bytes:
         if self.policy_qualifiers is not None and not self.policy_qualifiers:
             raise ValueError("qualifiers are one at least; where there are none, None")
-        of = [element(SEQUENCE, identifier_of(it.oid), it.data or b"") for it in self.policy_qualifiers or ()]
-        return element(SEQUENCE, identifier_of(self.policy_identifier), b"" if self.policy_qualifiers is None else element(SEQUENCE, *of))
+        of = [fill("x509_policy_qualifier_encode", it.oid.content, it.data or b"") for it in self.policy_qualifiers or ()]
+        return fill("x509_policy_encode", self.policy_identifier.content, b"".join(of))
 
 
 def _given_qualifiers(given: Iterable[PolicyQualifier | str]) -> list[PolicyQualifier]:
@@ -201,7 +206,7 @@ class CertificatePolicies(ListExtension[PolicyInformation]):
         policies = some(policies, PolicyInformation, "policies")
         if len({it.policy_identifier for it in policies}) < len(policies):
             raise ValueError("a policy stands there once")
-        self._write(element(SEQUENCE, *(it._der() for it in policies)), policies=policies)
+        self._write(fill("x509_certificate_policies_encode", b"".join(it._der() for it in policies)), policies=policies)
 
     def _read(self, data: bytes) -> None:
         super()._read(data)
@@ -230,7 +235,8 @@ class PolicyMappings(ListExtension[tuple[ObjectIdentifier, ObjectIdentifier]]):
             raise ValueError("mappings are one at least")
         if any(_ANY_POLICY in pair for pair in mappings):
             raise ValueError("any-policy isn't mapped, nor mapped to")
-        self._write(element(SEQUENCE, *(element(SEQUENCE, *map(identifier_of, it)) for it in mappings)), mappings=mappings)
+        members = [fill("x509_policy_mapping_encode", issuer.content, subject.content) for issuer, subject in mappings]
+        self._write(fill("x509_policy_mappings_encode", b"".join(members)), mappings=mappings)
 
     def _read(self, data: bytes) -> None:
         super()._read(data)

@@ -19,6 +19,7 @@ from ._header import (
     PATH_UNCHAINED,
     PATH_VERSION_1_AUTHORITIES,
     PathAnswerView,
+    PathCertificateView,
     PathSettingsView,
 )
 from ._library import X509Error, status_of
@@ -110,9 +111,10 @@ def validate_path(
     given = _encodings(path)
     lens = (ctypes.c_size_t * len(given))(*map(len, given))
     words = (b"".join(given), lens, ctypes.c_size_t(len(given)), _constraints(name_constraints), _accepted(policies))
-    answer, status, found = _asked(call, *trusted, *words, ctypes.byref(settings), ctypes.c_size_t(ctypes.sizeof(settings)))
+    told = (PathCertificateView * len(given))()
+    answer, status, found = _asked(call, told, *trusted, *words, ctypes.byref(settings), ctypes.c_size_t(ctypes.sizeof(settings)))
     fault = (int(answer.place), int(answer.reason)) if status == FAULT else None
-    certificates, key = _verified(key, given, settings.moment, fault, verify, working_key)
+    certificates, key = _verified(key, given, list(told) if fault is None else [], settings.moment, fault, verify, working_key)
     valid = tuple(it.policy_identifier for it in CertificatePolicies.from_der(found))
     return ValidatedPath(tuple(certificates), Name(answer.name.of(given[-1])), key, valid)
 
@@ -143,12 +145,12 @@ def _settings(
     return settings
 
 
-def _asked(call: str, *words: object) -> tuple[PathAnswerView, int, bytes]:
-    """What a call answers to a path, and the DER of its policies, in a buffer that they fit into."""
+def _asked(call: str, told: ctypes.Array[PathCertificateView], *words: object) -> tuple[PathAnswerView, int, bytes]:
+    """What a call answers to a path, and the DER of its policies, in a buffer that they fit into. Of a valid one `told` becomes what each certificate says."""
     size = 256
     while True:
         answer, out = PathAnswerView(), (ctypes.c_uint8 * size)()
-        status = status_of(call, *words, out, ctypes.c_size_t(size), ctypes.byref(answer))
+        status = status_of(call, *words, out, ctypes.c_size_t(size), ctypes.byref(answer), told, ctypes.c_size_t(len(told)))
         if status not in (OK, FAULT):
             raise X509Error(call, status)
         if answer.policies_len <= size:
@@ -184,13 +186,13 @@ def _trusted(anchor: Certificate | TrustAnchor | tuple[Name, bytes]) -> tuple[st
     """The call under an anchor, what that is given of it, and its public key."""
     if isinstance(anchor, Certificate) or der_of(anchor, "Certificate") is not None:
         anchor = certificate_of(anchor, "the anchor")
-        return "x509_path_validate", (anchor.public_bytes(),), anchor.public_key_bytes
+        return "x509_path_validate_views", (anchor.public_bytes(),), anchor.public_key_bytes
     if isinstance(anchor, TrustAnchor):
-        return "x509_path_validate_under_anchor", (anchor.public_bytes(),), anchor.public_key_bytes
+        return "x509_path_validate_views_under_anchor", (anchor.public_bytes(),), anchor.public_key_bytes
     if not isinstance(anchor, tuple) or len(anchor) != 2:
         raise TypeError("an anchor must be a Certificate, a TrustAnchor, or a pair of a Name and the DER of a public key")
     name, key = name_of(anchor[0], "the name of an anchor"), octets(anchor[1], "the public key of an anchor")
-    return "x509_path_validate_under_key", (name.public_bytes(), key), key
+    return "x509_path_validate_views_under_key", (name.public_bytes(), key), key
 
 
 def _constraints(given: bytes | None) -> bytes:

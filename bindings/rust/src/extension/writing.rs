@@ -13,12 +13,9 @@ use super::{
 use crate::error::Error;
 use crate::ffi;
 use crate::general_name::GeneralName;
-use crate::oid::{policy, ObjectIdentifier};
+use crate::oid::ObjectIdentifier;
 use crate::time::seconds;
-use crate::writing::{
-    element, elements, identifier, unsigned, INTEGER, NULL, OCTET_STRING, SEQUENCE, SET,
-};
-use std::collections::HashSet;
+use crate::writing::{element, INTEGER, NULL, SET};
 
 /// What builders can put into an extension.
 pub trait ToExtension {
@@ -125,33 +122,23 @@ written! {
         let excluded = joined(it.excluded_subtrees.as_deref().unwrap_or_default(), subtree)?;
         made(ffi::build::name_constraints(&permitted, &excluded))?
     };
-    CertificatePolicies<'_>, it if are_policies(it) => elements(SEQUENCE, it.0.iter().map(policy));
-    PolicyMappings, it if has_only(&it.0, is_mapping) => {
-        let pairs = it.0.iter().map(|pair| [pair.issuer_domain_policy, pair.subject_domain_policy]);
-        elements(SEQUENCE, pairs.map(|pair| elements(SEQUENCE, pair.iter().map(identifier))))
-    };
+    CertificatePolicies<'_>, it if it.0.iter().all(is_policy) => made(ffi::build::certificate_policies(&joined(&it.0, policy)?))?;
+    PolicyMappings, it => made(ffi::build::policy_mappings(&joined(&it.0, mapping)?))?;
     PolicyConstraints, it => made(ffi::build::policy_constraints(it.require_explicit_policy, it.inhibit_policy_mapping))?;
     InhibitAnyPolicy, it => made(ffi::build::inhibit_any_policy(it.0))?;
     CrlNumber<'_>, it => made(ffi::build::crl_number(it.0.as_bytes()))?;
     BaseCrlNumber<'_>, it => made(ffi::build::crl_number(it.0.as_bytes()))?;
     CrlReason, it => made(ffi::build::crl_reason(*it as u32))?;
-    SignedCertificateTimestamps<'_>, it if !it.0.is_empty() => {
-        let members: Vec<u8> = it.0.iter().flat_map(|octets| with_length(octets)).collect();
-        element(OCTET_STRING, &with_length(&members))
-    };
+    SignedCertificateTimestamps<'_>, it => made(ffi::build::timestamps(&it.0))?;
     PrivateKeyUsagePeriod, it => {
         let [first, last] = [it.not_before, it.not_after].map(|it| it.map(seconds).transpose());
         made(ffi::build::private_key_usage_period(first?, last?))?
     };
     InvalidityDate, it => made(ffi::build::invalidity_date(seconds(it.0)?))?;
-    SubjectDirectoryAttributes<'_>, it if has_only(&it.0, |of| !of.values.is_empty()) => {
-        elements(SEQUENCE, it.0.iter().map(directory_attribute))
-    };
+    SubjectDirectoryAttributes<'_>, it => made(ffi::build::subject_directory_attributes(&joined(&it.0, directory_attribute)?))?;
     PrecertPoison, _it => element(NULL, b"");
     OcspNoCheck, _it => element(NULL, b"");
-    TlsFeature, it if !it.0.is_empty() => {
-        elements(SEQUENCE, it.0.iter().map(|number| element(INTEGER, &unsigned(&number.to_be_bytes()))))
-    };
+    TlsFeature, it if !it.0.is_empty() => made(ffi::build::numbers(&it.0))?;
 }
 
 /// What a call writes; a value that it refuses is [`Error::Value`].
@@ -216,19 +203,9 @@ fn are_constraints(it: &NameConstraints<'_>) -> bool {
     lists.all(|list| has_only(list, is_subtree))
 }
 
-/// None is there twice (RFC 5280 4.2.1.4).
-fn are_policies(it: &CertificatePolicies<'_>) -> bool {
-    let identifiers: HashSet<_> = it.0.iter().map(|it| it.policy_identifier).collect();
-    identifiers.len() == it.0.len() && has_only(&it.0, is_policy)
-}
-
+/// Qualifiers that are there are one at least (RFC 5280 4.2.1.4).
 fn is_policy(it: &PolicyInformation<'_>) -> bool {
     it.policy_qualifiers.as_ref().map(Vec::len) != Some(0)
-}
-
-/// Neither is anyPolicy (RFC 5280 4.2.1.5).
-fn is_mapping(it: &PolicyMapping) -> bool {
-    ![it.issuer_domain_policy, it.subject_domain_policy].contains(&policy::ANY_POLICY)
 }
 
 /// The content octets are at most 20 (RFC 5280 5.2.3).
@@ -236,15 +213,11 @@ pub(crate) fn is_crl_number(octets: &[u8]) -> bool {
     octets.len() <= 20
 }
 
-fn directory_attribute(it: &DirectoryAttribute<'_>) -> Vec<u8> {
-    let values = elements(SET, it.values.iter().map(|value| value.to_vec()));
-    elements(SEQUENCE, [identifier(&it.oid), values])
-}
-
-/// A vector of TLS of up to 65,535 octets (RFC 6962 3.3), behind their number. Of more octets it is none, and isn't read as one.
-fn with_length(octets: &[u8]) -> Vec<u8> {
-    let len = u16::try_from(octets.len()).unwrap_or(u16::MAX);
-    [&len.to_be_bytes(), octets].concat()
+fn directory_attribute(it: &DirectoryAttribute<'_>) -> Result<Vec<u8>, Error> {
+    made(ffi::build::request_attribute(
+        it.oid.as_bytes(),
+        &it.values.concat(),
+    ))
 }
 
 /// The DER of the members one after the other, as the calls take lists.
@@ -308,15 +281,22 @@ fn subtree(it: &GeneralSubtree<'_>) -> Result<Vec<u8>, Error> {
     made(ffi::build::subtree(&general_name(&it.base)?))
 }
 
-fn qualifier(it: &PolicyQualifierInfo<'_>) -> Vec<u8> {
-    let value = it.qualifier.map(<[u8]>::to_vec);
-    let oid = [identifier(&it.policy_qualifier_id)];
-    elements(SEQUENCE, oid.into_iter().chain(value))
+fn qualifier(it: &PolicyQualifierInfo<'_>) -> Result<Vec<u8>, Error> {
+    let value = it.qualifier.unwrap_or_default();
+    let oid = it.policy_qualifier_id.as_bytes();
+    made(ffi::build::policy_qualifier(oid, value))
 }
 
-fn policy(it: &PolicyInformation<'_>) -> Vec<u8> {
-    let list = it.policy_qualifiers.as_deref();
-    let list = list.map(|list| elements(SEQUENCE, list.iter().map(qualifier)));
-    let oid = [identifier(&it.policy_identifier)];
-    elements(SEQUENCE, oid.into_iter().chain(list))
+fn policy(it: &PolicyInformation<'_>) -> Result<Vec<u8>, Error> {
+    let list = it.policy_qualifiers.as_deref().unwrap_or_default();
+    let oid = it.policy_identifier.as_bytes();
+    made(ffi::build::policy(oid, &joined(list, qualifier)?))
+}
+
+fn mapping(it: &PolicyMapping) -> Result<Vec<u8>, Error> {
+    let issuer = it.issuer_domain_policy.as_bytes();
+    made(ffi::build::policy_mapping(
+        issuer,
+        it.subject_domain_policy.as_bytes(),
+    ))
 }

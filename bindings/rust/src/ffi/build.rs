@@ -142,6 +142,55 @@ pub(crate) fn info_access(descriptions: &[u8]) -> Result<Vec<u8>, Error> {
     filled!(x509_info_access_encode: [descriptions])
 }
 
+/// The DER of a PolicyQualifierInfo; the qualifier is a whole element, or there is none.
+pub(crate) fn policy_qualifier(oid: &[u8], qualifier: &[u8]) -> Result<Vec<u8>, Error> {
+    filled!(x509_policy_qualifier_encode: [oid], [qualifier])
+}
+
+/// The DER of a PolicyInformation of the DER of its qualifiers, of which there may be none.
+pub(crate) fn policy(oid: &[u8], qualifiers: &[u8]) -> Result<Vec<u8>, Error> {
+    filled!(x509_policy_encode: [oid], [qualifiers])
+}
+
+/// The DER of a CertificatePolicies of the DER of its policies.
+pub(crate) fn certificate_policies(policies: &[u8]) -> Result<Vec<u8>, Error> {
+    filled!(x509_certificate_policies_encode: [policies])
+}
+
+/// The DER of a pair of a PolicyMappings.
+pub(crate) fn policy_mapping(issuer: &[u8], subject: &[u8]) -> Result<Vec<u8>, Error> {
+    filled!(x509_policy_mapping_encode: [issuer], [subject])
+}
+
+/// The DER of a PolicyMappings of the DER of its pairs.
+pub(crate) fn policy_mappings(mappings: &[u8]) -> Result<Vec<u8>, Error> {
+    filled!(x509_policy_mappings_encode: [mappings])
+}
+
+/// The DER of a SignedCertificateTimestampList of these serialized timestamps.
+pub(crate) fn timestamps(timestamps: &[&[u8]]) -> Result<Vec<u8>, Error> {
+    let lens: Vec<usize> = timestamps.iter().map(|it| it.len()).collect();
+    let joined = timestamps.concat();
+    filled!(x509_timestamps_encode: [joined], [lens])
+}
+
+/// The DER of an attribute with a set of values, of the DER of these.
+pub(crate) fn request_attribute(oid: &[u8], values: &[u8]) -> Result<Vec<u8>, Error> {
+    filled!(x509_request_attribute_encode: [oid], [values])
+}
+
+/// The DER of a SubjectDirectoryAttributes of the DER of its attributes.
+pub(crate) fn subject_directory_attributes(attributes: &[u8]) -> Result<Vec<u8>, Error> {
+    filled!(x509_subject_directory_attributes_encode: [attributes])
+}
+
+/// The DER of a SEQUENCE OF INTEGER of these numbers.
+pub(crate) fn numbers(numbers: &[u16]) -> Result<Vec<u8>, Error> {
+    let octets: Vec<u8> = numbers.iter().flat_map(|it| it.to_be_bytes()).collect();
+    let lens = vec![2; numbers.len()];
+    filled!(x509_numbers_encode: [octets], [lens])
+}
+
 /// The DER of a GeneralSubtree; the base is a whole GeneralName.
 pub(crate) fn subtree(base: &[u8]) -> Result<Vec<u8>, Error> {
     filled!(x509_subtree_encode: [base])

@@ -357,6 +357,13 @@ pub(crate) struct PathAnswer {
 
 #[repr(C)]
 #[derive(Clone, Copy, Debug, Default, PartialEq, Eq, Hash)]
+pub(crate) struct PathCertificate {
+    pub(crate) view: Certificate,
+    pub(crate) signature: Signature,
+}
+
+#[repr(C)]
+#[derive(Clone, Copy, Debug, Default, PartialEq, Eq, Hash)]
 pub(crate) struct BadLink {
     pub(crate) certificate: Span,
     pub(crate) key: Span,
@@ -879,6 +886,101 @@ extern "C" {
         room: usize,
         written: *mut usize,
     ) -> c_int;
+    pub(super) fn x509_cps_uri_encode(
+        uri: *const u8,
+        len: usize,
+        out: *mut u8,
+        room: usize,
+        written: *mut usize,
+    ) -> c_int;
+    pub(super) fn x509_numbers_encode(
+        octets: *const u8,
+        octets_len: usize,
+        lens: *const usize,
+        count: usize,
+        out: *mut u8,
+        room: usize,
+        written: *mut usize,
+    ) -> c_int;
+    pub(super) fn x509_user_notice_encode(
+        organization: *const u8,
+        organization_len: usize,
+        numbers: *const u8,
+        numbers_len: usize,
+        text: *const u8,
+        text_len: usize,
+        out: *mut u8,
+        room: usize,
+        written: *mut usize,
+    ) -> c_int;
+    pub(super) fn x509_policy_qualifier_encode(
+        oid: *const u8,
+        oid_len: usize,
+        qualifier: *const u8,
+        qualifier_len: usize,
+        out: *mut u8,
+        room: usize,
+        written: *mut usize,
+    ) -> c_int;
+    pub(super) fn x509_policy_encode(
+        oid: *const u8,
+        oid_len: usize,
+        qualifiers: *const u8,
+        qualifiers_len: usize,
+        out: *mut u8,
+        room: usize,
+        written: *mut usize,
+    ) -> c_int;
+    /// Writes a CertificatePolicies (4.2.1.4): encodings of its policies are given one after the other. X509_VALUE where there is none, or one is there twice.
+    pub(super) fn x509_certificate_policies_encode(
+        policies: *const u8,
+        len: usize,
+        out: *mut u8,
+        room: usize,
+        written: *mut usize,
+    ) -> c_int;
+    pub(super) fn x509_policy_mapping_encode(
+        issuer_policy: *const u8,
+        issuer_policy_len: usize,
+        subject_policy: *const u8,
+        subject_policy_len: usize,
+        out: *mut u8,
+        room: usize,
+        written: *mut usize,
+    ) -> c_int;
+    /// Writes a PolicyMappings (4.2.1.5): encodings of its pairs are given one after the other. X509_VALUE where there is none, or one has anyPolicy.
+    pub(super) fn x509_policy_mappings_encode(
+        mappings: *const u8,
+        len: usize,
+        out: *mut u8,
+        room: usize,
+        written: *mut usize,
+    ) -> c_int;
+    pub(super) fn x509_request_attribute_encode(
+        oid: *const u8,
+        oid_len: usize,
+        values: *const u8,
+        values_len: usize,
+        out: *mut u8,
+        room: usize,
+        written: *mut usize,
+    ) -> c_int;
+    pub(super) fn x509_subject_directory_attributes_encode(
+        attributes: *const u8,
+        len: usize,
+        out: *mut u8,
+        room: usize,
+        written: *mut usize,
+    ) -> c_int;
+    pub(super) fn x509_timestamps_encode(
+        timestamps: *const u8,
+        timestamps_len: usize,
+        lens: *const usize,
+        count: usize,
+        out: *mut u8,
+        room: usize,
+        written: *mut usize,
+    ) -> c_int;
     pub(super) fn x509_subtree_encode(
         base: *const u8,
         len: usize,
@@ -1133,6 +1235,67 @@ extern "C" {
         out: *mut u8,
         room: usize,
         answer: *mut PathAnswer,
+    ) -> c_int;
+    pub(super) fn x509_path_validate_views(
+        anchor: *const u8,
+        anchor_len: usize,
+        path: *const u8,
+        path_len: usize,
+        lens: *const usize,
+        count: usize,
+        name_constraints: *const u8,
+        name_constraints_len: usize,
+        policies: *const u8,
+        policies_len: usize,
+        settings: *const PathSettings,
+        settings_size: usize,
+        out: *mut u8,
+        room: usize,
+        answer: *mut PathAnswer,
+        certificates: *mut PathCertificate,
+        certificate_room: usize,
+    ) -> c_int;
+    /// Under a name and a public key, as x509_path_validate_under_key.
+    pub(super) fn x509_path_validate_views_under_key(
+        name: *const u8,
+        name_len: usize,
+        key: *const u8,
+        key_len: usize,
+        path: *const u8,
+        path_len: usize,
+        lens: *const usize,
+        count: usize,
+        name_constraints: *const u8,
+        name_constraints_len: usize,
+        policies: *const u8,
+        policies_len: usize,
+        settings: *const PathSettings,
+        settings_size: usize,
+        out: *mut u8,
+        room: usize,
+        answer: *mut PathAnswer,
+        certificates: *mut PathCertificate,
+        certificate_room: usize,
+    ) -> c_int;
+    /// Under a trust anchor, as x509_path_validate_under_anchor.
+    pub(super) fn x509_path_validate_views_under_anchor(
+        anchor: *const u8,
+        anchor_len: usize,
+        path: *const u8,
+        path_len: usize,
+        lens: *const usize,
+        count: usize,
+        name_constraints: *const u8,
+        name_constraints_len: usize,
+        policies: *const u8,
+        policies_len: usize,
+        settings: *const PathSettings,
+        settings_size: usize,
+        out: *mut u8,
+        room: usize,
+        answer: *mut PathAnswer,
+        certificates: *mut PathCertificate,
+        certificate_room: usize,
     ) -> c_int;
     pub(super) fn x509_path_find(
         bytes: *const u8,

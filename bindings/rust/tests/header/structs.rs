@@ -50,6 +50,7 @@ layouts! {
     x509_path_fault = PathFault {place, reason}
     x509_path_settings = PathSettings {moment, flags, key_usage, purposes, purpose_len, purpose}
     x509_path_answer = PathAnswer {place, reason, name, key, policies_len}
+    x509_path_certificate = PathCertificate {view, signature}
     x509_bad_link = BadLink {certificate, key}
     x509_found_path = FoundPath {anchor, count, place, reason}
     x509_revocation = Revocation {date, reason}

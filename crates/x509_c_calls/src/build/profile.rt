@@ -28,7 +28,7 @@ pub(crate) struct PartInputs {
     pub(crate) extensions: Vec<Extension>,
 }
 
-/// The same with the profile and the key of the issuer.
+/// What a certificate is built of under a profile: also the profile, and the key of the issuer.
 #[derive(Drop)]
 pub(crate) struct ProfileInputs<P> {
     pub(crate) profile: P,

@@ -34,7 +34,7 @@ pub struct SignatureView {
 }
 
 /// What is to be verified of the certificate of which the bytes are the encoding.
-fn signature_of(input: &[u8]) -> SignatureView
+pub(crate) fn signature_of(input: &[u8]) -> SignatureView
     ensures { (certificate : whole.CertificateInner rules.Rfc5280) → Spells ⟦<CertificateInner<Rfc5280> as Grammar>⟧.form certificate input.now
         → IsSignature input.now certificate result }
 {

@@ -1,14 +1,10 @@
 //! What is answered to a path.
 
-ghost use Rattle.std.specs.Prelude.{◌≡◌};
-ghost use Rattle.x509_c_calls.specs.PathValidation.{IsFault, IsSubject, validation_code};
-ghost use Rattle.x509_cert.specs.Certificate.{rfc5280_certificate};
-ghost use Rattle.x509_der.specs.Form.{Spells};
-ghost use Rattle.x509_path.specs.Certificates.{Certificate};
+ghost use Rattle.std.specs.Prelude.{◌≡◌, ◌≢◌, [], map};
+ghost use Rattle.x509_c_calls.specs.PathValidation.{IsFault, IsSubjectOfLast, validation_code};
 
 use crate::Span;
-use crate::certificate::view_of;
-use x509_base::Rfc5280;
+use crate::path::views::certificate_of;
 use x509_check::CertificateRef;
 use x509_validation::ValidationReason;
 
@@ -75,23 +71,26 @@ pub(crate) fn fault_at(place: usize, reason: ValidationReason) -> PathAnswer
     }
 }
 
-/// Where the subject and the key of a certificate stand, and how many octets the policies take.
-pub(crate) fn subject_of(bytes: &[u8], policies_len: usize) -> PathAnswer
-    ensures subject { (c : Certificate) → Spells rfc5280_certificate c bytes.now → IsSubject bytes.now c result }
+/// Where the subject and the key of the last of these certificates stand, and how many octets the policies take.
+pub(crate) fn subject_of(path: &[CertificateRef<'_>], policies_len: usize) -> PathAnswer
+    ensures subject { path.now ≢ [] → IsSubjectOfLast (map (λ certificate. certificate.bytes.now) path.now) result }
     ensures policies { result.policies_len ≡ policies_len }
 {
-    let (name, key) = match CertificateRef::<Rfc5280>::from_der_with_validity(bytes) {
-        Ok((certificate, validity)) => {
-            let view = view_of(bytes, &certificate, &validity);
-            (view.subject, view.subject_public_key_info)
-        }
-        Err(_) => (NOWHERE, NOWHERE),
+    let [.., last] = path else {
+        return PathAnswer {
+            place: 0,
+            reason: 0,
+            name: NOWHERE,
+            key: NOWHERE,
+            policies_len,
+        };
     };
+    let view = certificate_of(last).view;
     PathAnswer {
         place: 0,
         reason: 0,
-        name,
-        key,
+        name: view.subject,
+        key: view.subject_public_key_info,
         policies_len,
     }
 }

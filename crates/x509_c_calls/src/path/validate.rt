@@ -14,6 +14,7 @@ use crate::path::pieces::cut;
 use crate::path::policies::{accepted_set, encoded_policies, policies_of};
 use crate::path::question::PathQuestion;
 use crate::path::settings::{own_purpose_of, purposes_of, settings_of, unless_empty};
+use crate::path::views::{PathCertificate, put_certificates};
 use crate::status::put;
 use std::alloc::{AllocError, Global};
 use x509_base::{Rfc5280, SubjectPublicKeyInfo};
@@ -49,19 +50,21 @@ fn tell(
     settings: &PathSettings<'_>,
     room: &mut [u8],
     answer: &mut PathAnswer,
+    certificates: &mut [PathCertificate],
 ) -> Status
     ensures { (inputs : Inputs) → LendsInputs trusted.now settings.now inputs
-        → TellsValidation inputs (map (λ input. input.now) path.now) (record { room = room.old; answer = answer.old })
-        (record { room = room.new; answer = answer.new }) result }
+        → TellsValidation inputs (map (λ input. input.now) path.now) (record { room = room.old; answer = answer.old; certificates = certificates.old })
+        (record { room = room.new; answer = answer.new; certificates = certificates.new }) result }
 {
-    let [.., last] = path else {
-        return Status::Absent;
-    };
     match validate_path_lent(alloc, trusted, path, settings, &AnySignature) {
         Ok(validated) => match encoded_policies(alloc, validated.policies.as_slice()) {
             Ok(policies) => {
+                let lent = validated.certificates.as_slice();
+                let Ok(()) = put_certificates(alloc, lent, certificates) else {
+                    return Status::Refused(ErrorKind::Memory);
+                };
                 put(policies.as_slice(), room);
-                *answer = subject_of(last, policies.len());
+                *answer = subject_of(lent, policies.len());
                 Status::Done
             }
             Err(e) => e.into(),
@@ -109,10 +112,11 @@ fn validate_under(
     question: &PathQuestion<'_>,
     room: &mut [u8],
     answer: &mut PathAnswer,
+    certificates: &mut [PathCertificate],
 ) -> Status
     ensures { (trust : Trust) → LendsTrust trusted.now trust
         → Validates ⟦<NameConstraints as Grammar>⟧.refuses ⟦<CertificatePolicies as Grammar>⟧.refuses question.now trust
-        (record { room = room.old; answer = answer.old }) (record { room = room.new; answer = answer.new }) result }
+        (record { room = room.old; answer = answer.old; certificates = certificates.old }) (record { room = room.new; answer = answer.new; certificates = certificates.new }) result }
 {
     let Some(asked) = settings_of(question.settings) else {
         return Status::Refused(ErrorKind::Value);
@@ -154,11 +158,20 @@ fn validate_under(
         allows_version_1: asked.allows_version_1,
         constrain_common_names: asked.constrain_common_names,
     };
-    tell(alloc, trusted, path.as_slice(), &settings, room, answer)
+    tell(
+        alloc,
+        trusted,
+        path.as_slice(),
+        &settings,
+        room,
+        answer,
+        certificates,
+    )
 }
 
 /// Validates a path of certificates apart from the signatures, of which any bits are accepted as one (RFC 5280 6.1), under
-/// what an anchor's certificate gives that is trusted (RFC 5937 2), as [`Trusted::from_certificate`] says.
+/// what an anchor's certificate gives that is trusted (RFC 5937 2), as [`Trusted::from_certificate`] says. Of a valid path what each
+/// certificate says is filled into `certificates`, where all fit.
 ///
 /// # Errors
 ///
@@ -167,7 +180,7 @@ fn validate_under(
 /// repeated; the errors of decoding the anchor's certificate, its extensions that are followed, the name constraints and the
 /// policies; where several of these are bad, any of them, but those of [`Trusted::from_certificate`] in their order. Else [`Status::Absent`] where there is no certificate, and [`Status::Faulty`] where one has a
 /// fault, the first of which is filled in; `Overlength` where the path is valid, and the encoding of its policies would be too
-/// long. `Memory` when out of memory. `answer` is unchanged except on [`Status::Faulty`], `room` on each.
+/// long. `Memory` when out of memory. `answer` is unchanged except on [`Status::Faulty`], `room` and `certificates` on each.
 #[tactic(auto, unfolding(crate::specs::PathValidation::ValidatesUnderCertificate))]
 pub fn path_validate(
     alloc: Global,
@@ -175,21 +188,22 @@ pub fn path_validate(
     question: &PathQuestion<'_>,
     room: &mut [u8],
     answer: &mut PathAnswer,
+    certificates: &mut [PathCertificate],
 ) -> Status
     ensures { ValidatesUnderCertificate ⟦<Certificate as Grammar>⟧.refuses ⟦<NameConstraints as Grammar>⟧.refuses ⟦<CertificatePolicies as Grammar>⟧.refuses
-        anchor.now question.now (record { room = room.old; answer = answer.old }) (record { room = room.new; answer = answer.new }) result }
+        anchor.now question.now (record { room = room.old; answer = answer.old; certificates = certificates.old }) (record { room = room.new; answer = answer.new; certificates = certificates.new }) result }
 {
     let certificate = match CertificateRef::<Rfc5280>::from_der(anchor) {
         Ok(certificate) => certificate,
         Err(e) => return e.into(),
     };
     match Trusted::from_certificate(alloc, &certificate) {
-        Ok(trusted) => validate_under(alloc, &trusted, question, room, answer),
+        Ok(trusted) => validate_under(alloc, &trusted, question, room, answer, certificates),
         Err(e) => e.into(),
     }
 }
 
-/// The same under a name and a public key that are trusted, each as its encoding.
+/// Validates a path as [`path_validate`] does, under a name and a public key that are trusted, each as its encoding.
 ///
 /// # Errors
 ///
@@ -203,10 +217,11 @@ pub fn path_validate_under_key(
     question: &PathQuestion<'_>,
     room: &mut [u8],
     answer: &mut PathAnswer,
+    certificates: &mut [PathCertificate],
 ) -> Status
     ensures { ValidatesUnderKey ⟦<Name as Grammar>⟧.refuses ⟦<SubjectPublicKeyInfo as Grammar>⟧.refuses ⟦<NameConstraints as Grammar>⟧.refuses
-        ⟦<CertificatePolicies as Grammar>⟧.refuses name.now key.now question.now (record { room = room.old; answer = answer.old })
-        (record { room = room.new; answer = answer.new }) result }
+        ⟦<CertificatePolicies as Grammar>⟧.refuses name.now key.now question.now (record { room = room.old; answer = answer.old; certificates = certificates.old })
+        (record { room = room.new; answer = answer.new; certificates = certificates.new }) result }
 {
     if let Err(e) = Name::check(name) {
         return e.into();
@@ -215,10 +230,10 @@ pub fn path_validate_under_key(
         return e.into();
     }
     let trusted = Trusted::new(AnchorRef { name, key });
-    validate_under(alloc, &trusted, question, room, answer)
+    validate_under(alloc, &trusted, question, room, answer, certificates)
 }
 
-/// The same under what a trust anchor gives that is trusted (RFC 5914, RFC 5937 2), as [`TrustedBuf::from_trust_anchor`] says, of the
+/// Validates a path as [`path_validate`] does, under what a trust anchor gives that is trusted (RFC 5914, RFC 5937 2), as [`TrustedBuf::from_trust_anchor`] says, of the
 /// encoding of a `TrustAnchorChoice`.
 ///
 /// # Errors
@@ -231,12 +246,20 @@ pub fn path_validate_under_anchor(
     question: &PathQuestion<'_>,
     room: &mut [u8],
     answer: &mut PathAnswer,
+    certificates: &mut [PathCertificate],
 ) -> Status
     ensures { ValidatesUnderAnchor ⟦<NameConstraints as Grammar>⟧.refuses ⟦<CertificatePolicies as Grammar>⟧.refuses anchor.now question.now
-        (record { room = room.old; answer = answer.old }) (record { room = room.new; answer = answer.new }) result }
+        (record { room = room.old; answer = answer.old; certificates = certificates.old }) (record { room = room.new; answer = answer.new; certificates = certificates.new }) result }
 {
     match TrustedBuf::from_der(alloc, anchor) {
-        Ok(trusted) => validate_under(alloc, &trusted.as_trusted(), question, room, answer),
+        Ok(trusted) => validate_under(
+            alloc,
+            &trusted.as_trusted(),
+            question,
+            room,
+            answer,
+            certificates,
+        ),
         Err(e) => e.into(),
     }
 }

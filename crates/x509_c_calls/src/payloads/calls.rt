@@ -84,7 +84,7 @@ fn implicit_list(number: u32) -> Option<Tag>
     }
 }
 
-/// The same of a list under the implicit tag \[n\]. `Malformed` where n is above 30.
+/// Goes over the members of a list under the implicit tag \[n\], as [`member_next`] does over those of a SEQUENCE OF. `Malformed` where n is above 30.
 pub fn member_under_next<V: View>(
     alloc: Global,
     number: u32,

@@ -18,7 +18,7 @@ use x509_ext::pkix::name::GeneralNames;
 use x509_prim::OctetString;
 
 /// The value that the bytes encode; `None` of no bytes.
-fn read_perhaps<T: Decode>(alloc: Global, bytes: &[u8]) -> Result<Option<T>, ErrorKind>
+pub(crate) fn read_perhaps<T: Decode>(alloc: Global, bytes: &[u8]) -> Result<Option<T>, ErrorKind>
     ensures { MatchResult result (SpellsPerhaps T.form bytes.now) (λ e. (e ≡ Memory) ⊎ RefusesPerhaps T.form T.refuses bytes.now e) }
 {
     if bytes.is_empty() {

@@ -76,7 +76,7 @@ pub fn step_optional(input: &[u8], at: &mut usize, is_there: bool) -> Span
     step(input, at, true)
 }
 
-/// The same, of the content of the element.
+/// Steps over an element that may be left out, and answers where its content octets stand; nowhere where it is left out.
 pub fn step_optional_content(input: &[u8], at: &mut usize, is_there: bool) -> Span
     requires { at.old ≤ length input.now }
     ensures within { at.new ≤ length input.now }

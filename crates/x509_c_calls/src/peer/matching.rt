@@ -39,7 +39,7 @@ pub fn certificate_matches_name(input: &[u8], name: &[u8], matches: &mut u32) ->
     }
 }
 
-/// The same of the mailbox with this address of e-mail, as [`matches_email`] tells. It takes no memory.
+/// Whether the certificate names the mailbox with this e-mail address, as [`matches_email`] tells. It takes no memory.
 ///
 /// # Errors
 ///

@@ -1,7 +1,7 @@
-use Rattle.std.proofs.Common.{◌∙◌, ◌++◌, take, sym, ap, arith}
+use Rattle.std.proofs.Common.{◌∙◌, ◌++◌, take, sym, ap}
 use Rattle.x509_c_calls.proofs.PolicyOctets.{further, long-policy}
 use Rattle.x509_c_calls.proofs.path.policies.encoded_policies.Goals as goal
-use Rattle.x509_c_calls.specs.PathValidation.{policies_octets, policy_octets}
+use Rattle.x509_c_calls.specs.PathValidation.{policy_octets}
 use Rattle.x509_der.specs.List.{joined}
 use Rattle.x509_policy.specs.Views.{octets_of}
 

@@ -46,7 +46,7 @@ returns c trust lends =
     let same_settings : asked ≡ asked_of settings = ap (λ s. record asked { user_initial_policy_set = s }) (sym front) in
     let lent : LendsInputs c.args.trusted.now settings inputs = record { trust = lends; moment = refl; constraints = c.in-Ok.ensures.2; asked = same_settings; purposes = lent_as; uses = refl; oids = subst AreOids (sym front) (are_oids c.args.question.now.policies.now named c.in-Ok-policies_of.ensures) } in
     let asks : Asks c.args.question.now trust inputs path = record { trust = refl; constraints = c.in-Ok.ensures.1; settings = c.in-Some.asked; has_settings = c.in-Some.ensures; moment = refl; named = named; are_named = c.in-Ok-policies_of.ensures; policies = refl; purposes = refl; uses = refl; cut = cut } in
-    let was : Left = record { room = c.args.room.now; answer = c.args.answer.now } in
-    let is : Left = record { room = c.tell.new.room; answer = c.tell.new.answer } in
+    let was : Left = record { room = c.args.room.now; answer = c.args.answer.now; certificates = c.args.certificates.now } in
+    let is : Left = record { room = c.tell.new.room; answer = c.tell.new.answer; certificates = c.tell.new.certificates } in
     let same : map (λ (input : Bor (List ℕ)). input.now) c.as_slice-2.result.now ≡ path = ap (map (λ (input : Bor (List ℕ)). input.now)) c.as_slice-2.ensures.value in
     inl (inputs, path, asks, subst (λ xs. TellsValidation inputs xs was is c.tell.result) same (c.tell.ensures inputs lent))
