@@ -6,7 +6,7 @@ use Rattle.x509_der.specs.Element.{limit}
 use Rattle.x509_der.specs.Writing.{Kind, IsKind}
 use Rattle.x509_der.specs.declared.room.fixed.Fixed.{Fixed}
 
--- The same room; the bytes stand in front of those that stood, and those before them are as they were.
+-- The room is the one that stood; the bytes stand in front of those that stood, and those before them are as they were.
 pub record PutsFixed (bytes : List ℕ) (x y : Fixed) : Type 0 where
   pub same_reference : y.room.ghost_name ≡ x.room.ghost_name
   pub len : length y.room.now ≡ length x.room.now

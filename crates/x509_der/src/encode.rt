@@ -152,7 +152,7 @@ pub trait Encode: Grammar {
 ///
 /// Those of `to_der`.
 #[inline(never)]
-fn to_counted_der<T: Encode>(value: &T, alloc: Global) -> Result<Vec<u8>, Error>
+pub fn to_counted_der<T: Encode>(value: &T, alloc: Global) -> Result<Vec<u8>, Error>
     ensures ok { IfOk result (λ bytes. (bytes.items ≡ written_spelling T.form (writes T.writing value.now))
         × IsWritable T.form (writes T.writing value.now) limit) }
     ensures err { IfErr result (λ e. (e.kind ≡ Memory) ⊎ IsUnwritable T.form (writes T.writing value.now) limit e.kind) }
@@ -181,7 +181,7 @@ pub fn put_header<R: Room>(tag: u8, len: u32, room: &mut R) -> Result<(), Error>
     put_long_header(tag, len, room)
 }
 
-/// The same where the length takes more than one octet (X.690 8.1.3.5).
+/// Puts a header whose length takes more than one octet (X.690 8.1.3.5).
 #[tactic(auto, unfolding(crate::specs::Element::length_octets))]
 #[inline(never)]
 fn put_long_header<R: Room>(tag: u8, len: u32, room: &mut R) -> Result<(), Error>

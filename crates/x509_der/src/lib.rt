@@ -44,7 +44,7 @@ pub use clone::TryClone;
 pub use content::Content;
 pub use decode::{Decode, expect_tag, read_whole};
 pub use element::{AnyRef, Piece, check_content, split_element, split_usual, take_element};
-pub use encode::{Encode, put_header};
+pub use encode::{Encode, put_header, to_counted_der};
 pub use error::{Error, ErrorKind};
 pub use frames::default_value::DefaultValue;
 pub use frames::identifiers::{explicit_identifier, implicit_identifier};

@@ -6,7 +6,7 @@ ghost use Rattle.x509_ext.specs.ToExtension.{Makes};
 use crate::criticality::Criticality;
 use crate::extension::Extension;
 use std::alloc::Global;
-use x509_der::{AssociatedOid, Encode, Error, ObjectIdentifier};
+use x509_der::{AssociatedOid, Encode, Error, ObjectIdentifier, to_counted_der};
 use x509_name::name::Name;
 use x509_prim::OctetString;
 
@@ -37,7 +37,7 @@ pub trait ToExtension: Sized {
         ensures { makes self subject.now extensions.now result };
 }
 
-/// A payload of at most so many octets is encoded on the stack, so that the extension takes memory for just its length.
+/// A payload of at most so many octets is encoded on the stack; a longer one is counted first. The extension takes memory for just its length.
 const MAX_ON_STACK: usize = 512;
 
 /// The extension that holds the encoding of the value.
@@ -57,11 +57,10 @@ fn hold<T: Encode>(
             extn_value: OctetString::new(alloc, octets)?,
         });
     }
-    let octets = payload.to_der(alloc)?;
     Ok(Extension {
         extn_id,
         critical,
-        extn_value: OctetString::from_vec(octets)?,
+        extn_value: OctetString::from_vec(to_counted_der(payload, alloc)?)?,
     })
 }
 

@@ -12,7 +12,7 @@ const UNIVERSAL: [u8; 24] = [
     0x18, 0x19, 0x1A, 0x1B, 0x1C, 0x1E, 0x30, 0x31,
 ];
 
-/// The same, as the types have them.
+/// These octets, as the types have them.
 fn universal() -> [u8; 24] {
     [
         Tag::Boolean.octet(),

@@ -15,6 +15,7 @@ use x509_ext::pkix::{
 };
 use x509_ext::{Criticality, Extension, ToExtension};
 use x509_name::name::Name;
+use x509_prim::OctetString;
 
 /// Whether a copy that equals the payload makes the extension with these bytes.
 fn makes<T>(rt: &HostRuntime, payload: &T, extension: &[u8]) -> bool
@@ -240,4 +241,21 @@ fn usages(rt: HostRuntime) {
     assert!(rt; is_unnamed(&rt, &KeyUsage(KeyUsages::from_bits_retain(512))));
     let reasons = Reasons::from_bits_retain(512);
     assert!(rt; is_refused(reasons.to_der(rt.alloc()), ErrorKind::Value));
+}
+
+/// Whether the extension of a key identifier of so many octets has memory of just the length of its value.
+fn is_held_exactly(rt: &HostRuntime, len: usize) -> Result<bool, Error> {
+    let octets = OctetString::from_vec(Vec::from_elem(rt.alloc(), 0xAA, len)?)?;
+    let payload = SubjectKeyIdentifier(octets);
+    let extension = (&payload).to_extension(rt.alloc(), &Name::new(rt.alloc()), &[])?;
+    let value = extension.extn_value.into_bytes()?;
+    Ok(value.len() == len + 4 && value.capacity() == value.len())
+}
+
+#[test]
+fn long_values_take_no_memory_to_spare(rt: HostRuntime) -> Result<(), Fail> {
+    for len in [508, 509, 5000] {
+        assert!(rt; is_held_exactly(&rt, len)?, "of {len}");
+    }
+    Ok(())
 }

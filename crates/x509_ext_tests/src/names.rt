@@ -72,7 +72,7 @@ fn has_two(name: &Name, attributes: usize) -> bool {
         && rdns.size_hint() == (1, Some(1))
 }
 
-/// The same of the name of the text.
+/// Whether the name of the text has two RDNs, the first with so many attributes.
 fn is_of_two(rt: &HostRuntime, text: &str, attributes: usize) -> bool {
     match Name::from_str(rt.alloc(), text) {
         Ok(name) => has_two(&name, attributes),

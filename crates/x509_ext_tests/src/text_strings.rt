@@ -29,7 +29,7 @@ fn is_restricted<A: Alphabet>(rt: &HostRuntime, text: &str, quoted: &str) -> boo
     }
 }
 
-/// The same of a UTF8String.
+/// Whether a UTF8String of the text is printed, copied and shown as it says.
 fn is_utf8(rt: &HostRuntime, text: &str, quoted: &str) -> bool {
     let Ok(string) = Utf8String::new(rt.alloc(), text) else {
         return false;
@@ -95,7 +95,7 @@ fn is_borrowed<A: Alphabet>(
     }
 }
 
-/// The same of a UTF8String.
+/// Whether a UTF8String was borrowed, and a copy of it is equal.
 fn is_borrowed_utf8(rt: &HostRuntime, read: Result<Utf8StringRef<'_>, Error>, text: &str) -> bool {
     let Ok(found) = read else {
         return false;
@@ -120,7 +120,7 @@ fn are_borrowed(rt: &HostRuntime) -> bool {
         && is_refused(Ia5StringRef::from_any(printable), ErrorKind::Malformed)
 }
 
-/// The same of VisibleString and UTF8String.
+/// Whether a VisibleString and a UTF8String are borrowed.
 fn are_lent(rt: &HostRuntime) -> bool {
     let visible = AnyRef::new(Tag::VisibleString, b"~");
     let utf8 = AnyRef::new(Tag::Utf8String, b"\xC3\xA4");

@@ -173,7 +173,7 @@ impl ObjectIdentifier {
         ensures value { (arcs : List ℕ) → AreArcs arcs
             → content.now ≡ content_of arcs → result ≡ Ok content.now }
         ensures err { IfErr result (λ e. e.kind ≡ Malformed) }
-        // The same by the test that a reader runs.
+        // By the test that a reader runs.
         ensures exact { Gives result
             (if is_object_identifier content.now then Ok content.now else Err Malformed) }
     {

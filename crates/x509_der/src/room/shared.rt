@@ -6,7 +6,7 @@ ghost use Rattle.std.specs.Io.BufRead.{Rests};
 
 use crate::Error;
 
-/// The same bytes, to be read alone. Once they are no longer borrowed, the buffer is as it was.
+/// The bytes, to be read only. Once they are no longer borrowed, the buffer is as it was.
 pub(crate) fn share<'a>(room: &'a mut [u8]) -> &'a [u8]
     ensures* place { sem 𝓛 (Rests (Array u8 0) room.entry (λ last. last ≡ room.old)) }
     ensures value { result.now ≡ room.old }
