@@ -5,6 +5,7 @@ pub mod KnownExtensions
 pub mod LentLists
 pub mod LentCertificates
 pub mod LentEntries
+pub mod PassedExtensions
 pub mod Rising
 pub mod Whole
 pub mod LentFields

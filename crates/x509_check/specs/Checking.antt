@@ -16,7 +16,7 @@ abbrev pub Finds : {X : Type 0} → Result Unit Error → Result X ErrorKind →
 Finds {X} (Ok done) reading = (value : X) × (reading ≡ Ok value)
 Finds (Err e) reading = reading ≡ Err e.kind
 
--- The same of a part of a sequence: the check leaves what follows the part.
+-- The check passes where reading finds a part of a sequence, and leaves what follows the part.
 abbrev pub Passes : {X : Type 0} → Result Unit Error → List ℕ → Result (X × List ℕ) ErrorKind → Type 0
 Passes {X} (Ok done) rest reading = (value : X) × (reading ≡ Ok (value, rest))
 Passes (Err e) rest reading = reading ≡ Err e.kind

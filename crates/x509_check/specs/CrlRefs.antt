@@ -1,5 +1,6 @@
 -- CRLs and their entries that are lent from their bytes (RFC 5280 5.1).
-use Rattle.std.specs.Prelude.{◌≡◌, List, [], length, ℕ, Option, option_copied, option_map, MatchOption, Result, Ok}
+use Rattle.std.specs.List.{list_any}
+use Rattle.std.specs.Prelude.{◌≡◌, ◌||◌, ◌∷◌, Bool, false, List, [], bytes_eq, length, ℕ, Option, option_copied, option_map, MatchOption, Result, Ok}
 use Rattle.x509_base.specs.AlgorithmIdentifier.{algorithm_identifier}
 use Rattle.x509_base.specs.declared.time.Time.{Time}
 use Rattle.x509_cert.specs.CertificateList.{certificate_list, tbs_cert_list}
@@ -21,6 +22,9 @@ use Rattle.x509_der.specs.Outcome.{◌>>=◌}
 use Rattle.x509_der.specs.declared.error.ErrorKind.{ErrorKind}
 use Rattle.x509_der.specs.declared.tag.Tag.TheVariants.{Sequence}
 use Rattle.x509_ext.specs.Extension.{extensions}
+use Rattle.x509_ext.specs.Identifiers.{id_ce}
+use Rattle.x509_ext.specs.LookUp.{members}
+use Rattle.x509_ext.specs.declared.extension.Extension.{Extension}
 use Rattle.x509_name.specs.Names.{name}
 use Rattle.x509_prim.specs.BitString.{bit_string}
 
@@ -50,14 +54,29 @@ FindsInList number list answer = FindsEntry number (entries list.tbs_cert_list.r
 abbrev pub entries_in : {P : Type 0} → (List ℕ → Result Unit ErrorKind) → List ℕ → List (RevokedCert P)
 entries_in check bytes = listed (list_reading (revoked_cert check).reading bytes)
 
+-- ---- what an entry's extensions ask
+
+-- An extension is critical, so that the CRL can't be used where it isn't processed (RFC 5280 5.3), or is a CertificateIssuer, which says who issued
+-- the certificate of its entry and those of the entries behind it (5.3.3).
+abbrev pub marks : Extension → Bool
+marks e = e.critical || bytes_eq e.extn_id (id_ce 29)
+
+-- the entry has such an extension
+abbrev pub is_marked : {P : Type 0} → RevokedCert P → Bool
+is_marked entry = list_any marks (members entry.crl_entry_extensions)
+
+-- the extensions of an entry that gives a reason, in an extension that isn't critical, and nothing else (5.3.1)
+abbrev pub reason_alone : ℕ → List Extension
+reason_alone reason = record { extn_id = id_ce 21; critical = false; extn_value = 0x0A ∷ 0x01 ∷ reason ∷ [] } ∷ []
+
 -- ---- the fields of a CRL
 
 -- SEQUENCE OF RevokedCert
 abbrev pub entry_list : {P : Type 0} → (List ℕ → Result Unit ErrorKind) → Form (List (RevokedCert P))
 entry_list check = universal Sequence (list_of (revoked_cert check))
 
--- The fields of the signed part, each as its own element, or as what it says, and how many entries there are. Of the extensions it is the element inside
--- the explicit tag.
+-- The fields of the signed part, each as its own element, or as what it says, how many entries there are, and whether one is marked. Of the extensions it
+-- is the element inside the explicit tag.
 pub record FieldSpellings : Type 0 where
   pub version : Option Version
   pub signature : List ℕ
@@ -66,6 +85,7 @@ pub record FieldSpellings : Type 0 where
   pub next_update : Option Time
   pub revoked_certificates : Option (List ℕ)
   pub entry_count : ℕ
+  pub has_marked : Bool
   pub crl_extensions : Option (List ℕ)
 
 pub record ListSpellings : Type 0 where
@@ -84,6 +104,7 @@ field_spellings check part = record {
   next_update = part.next_update;
   revoked_certificates = option_map (spelling (entry_list check)) part.revoked_certificates;
   entry_count = length (entries part.revoked_certificates);
+  has_marked = list_any is_marked (entries part.revoked_certificates);
   crl_extensions = option_map (spelling extensions) part.crl_extensions;
 }
 
@@ -105,6 +126,7 @@ lent_fields f = record {
   next_update = f.next_update;
   revoked_certificates = option_copied f.revoked_certificates;
   entry_count = f.entry_count;
+  has_marked = f.has_marked;
   crl_extensions = option_copied f.crl_extensions;
 }
 

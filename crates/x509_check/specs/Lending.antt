@@ -23,7 +23,7 @@ abbrev pub LendsSo : {X Y : Type 0} → (X → Y → Type 0) → Result Y Error 
 LendsSo {X} so (Ok y) reading = (value : X) × (reading ≡ Ok value) × so value y
 LendsSo so (Err e) reading = reading ≡ Err e.kind
 
--- The same of a part of a sequence.
+-- The call answers what is so related to the part of a sequence that reading finds, and what follows it.
 abbrev pub LendsSoBefore : {X Y : Type 0} → (X → Y → Type 0) → Result Y Error → List ℕ → Result (X × List ℕ) ErrorKind → Type 0
 LendsSoBefore {X} so (Ok y) rest reading = (value : X) × (reading ≡ Ok (value, rest)) × so value y
 LendsSoBefore so (Err e) rest reading = reading ≡ Err e.kind

@@ -16,6 +16,7 @@ pub mod Lists
 pub mod Newest
 pub mod Same
 pub mod Settled
+pub mod Plain
 pub mod OneStatus
 pub mod Faulty
 pub mod Silent

@@ -6,6 +6,7 @@ use Rattle.std.specs.Bool.{IsTrue}
 use Rattle.std.specs.List.{All, list_any}
 use Rattle.std.specs.Prelude.{MatchOption}
 use Rattle.x509_cert.specs.Issuers.{or_else}
+use Rattle.x509_check.specs.CrlRefs.{marks}
 use Rattle.x509_ext.specs.Identifiers.{id_ce}
 use Rattle.x509_ext.specs.LookUp.{members, with_oid}
 use Rattle.x509_ext.specs.declared.extension.Extension.{Extension}
@@ -13,31 +14,27 @@ use Rattle.x509_revocation.specs.Entries.{AreUsableIssuers, IsIssuer, IsProcesse
 use Rattle.x509_revocation.specs.LentEntries.{Settles}
 use Rattle.x509_revocation.specs.Names.{Name}
 
--- one that is critical, or names an issuer
-abbrev marked : Extension → Bool
-marked e = e.critical || bytes_eq e.extn_id (id_ce 29)
-
-neither : (a b : Bool) → (a || b) ≡ false → (a ≡ false) × (b ≡ false)
+pub neither : (a b : Bool) → (a || b) ≡ false → (a ≡ false) × (b ≡ false)
 neither false b h = (refl, h)
 neither true b h = absurd cc
 
-all_processed : (extensions : List Extension) → list_any marked extensions ≡ false → All IsProcessedInEntry extensions
+pub all_processed : (extensions : List Extension) → list_any marks extensions ≡ false → All IsProcessedInEntry extensions
 all_processed [] h = All-nil IsProcessedInEntry
 all_processed (e ∷ others) h =
-    let both = neither (marked e) (list_any marked others) h in
+    let both = neither (marks e) (list_any marks others) h in
     let here = neither e.critical (bytes_eq e.extn_id (id_ce 29)) both.0 in
     All-cons IsProcessedInEntry e others (λ critical. absurd (true≢false (sym critical ∙ here.0))) (all_processed others both.1)
 
-none_named : (extensions : List Extension) → list_any marked extensions ≡ false → with_oid (id_ce 29) extensions ≡ []
+pub none_named : (extensions : List Extension) → list_any marks extensions ≡ false → with_oid (id_ce 29) extensions ≡ []
 none_named [] h = refl
 none_named (e ∷ others) h =
-    let both = neither (marked e) (list_any marked others) h in
+    let both = neither (marks e) (list_any marks others) h in
     let here = neither e.critical (bytes_eq e.extn_id (id_ce 29)) both.0 in
     rw here.1 (none_named others both.1)
 
 module _ (indirect : Bool) (own name : Name) (before : List Extension) where
   -- those that aren't marked change nothing
-  pub unmarked : (extensions : List Extension) (is_issuer : Bool) → list_any marked extensions ≡ false → IsTrue is_issuer ↔ IsIssuer own name before → Settles indirect own name before extensions (Some is_issuer)
+  pub unmarked : (extensions : List Extension) (is_issuer : Bool) → list_any marks extensions ≡ false → IsTrue is_issuer ↔ IsIssuer own name before → Settles indirect own name before extensions (Some is_issuer)
   unmarked extensions is_issuer none same =
       let named = none_named extensions none in
       ((all_processed extensions none, rw named tt), rw named same)

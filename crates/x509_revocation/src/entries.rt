@@ -64,8 +64,8 @@ fn issuer_at(
     }
 }
 
-/// The same; `None` also where a critical extension isn't processed. Extensions that aren't critical and don't name an issuer are passed over,
-/// since they change nothing.
+/// Whether the entry is of the certificate's issuer, by these extensions; `None` also where a critical one isn't processed. Those that aren't
+/// critical and don't name an issuer are passed over, since they change nothing.
 fn issuer_of_extensions(
     alloc: Global,
     certificate: &CertificateRef<'_>,
@@ -86,7 +86,7 @@ fn issuer_of_extensions(
     issuer_at(alloc, certificate, is_indirect, is_issuer, extensions)
 }
 
-/// The same of an entry.
+/// Whether the entry is of the certificate's issuer, by its extensions.
 #[inline(always)]
 fn issuer_of_entry(
     alloc: Global,
@@ -122,7 +122,8 @@ fn is_of(is_issuer: bool, entry: &UndatedCertRef<'_>, serial_number: &[u8]) -> b
 }
 
 /// (i) of a delta CRL, (j) of a complete one: the first entry of the certificate; `None` where an entry stands against the use of
-/// the CRL (5.3), which is an indirect one or not. In one pass over the entries.
+/// the CRL (5.3), which is an indirect one or not. In one pass over the entries; over their serial numbers alone where no entry has an
+/// extension that is critical or is a CertificateIssuer.
 ///
 /// Each critical extension of the entries is a [`CrlReason`] or a [`CertificateIssuer`] that can be decoded. A CertificateIssuer
 /// stands in entries of an indirect CRL alone, no entry has two, and each can be decoded and has a directory name.
@@ -138,6 +139,12 @@ pub(crate) fn find_entry<'a>(
 {
     let serial_number = certificate.serial_number();
     let mut is_issuer = encoded_match(alloc, crl.issuer(), certificate.issuer())?;
+    if crl.has_plain_entries() {
+        if !is_issuer {
+            return Ok(Some(None));
+        }
+        return Ok(Some(crl.find(serial_number)));
+    }
     let mut entries = crl.entries();
     let mut found: Option<RevokedCertRef<'a>> = None;
     while let Some(entry) = entries.next_undated() {

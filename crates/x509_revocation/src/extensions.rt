@@ -22,7 +22,7 @@ fn is_readable<T: AssociatedOid + Check>(extension: &ExtensionRef<'_>) -> bool
     T::check(extension.extn_value).is_ok()
 }
 
-/// The same of one of two types.
+/// Whether the extension is of one of two types, and its value can be decoded.
 fn is_either<T: AssociatedOid + Check, U: AssociatedOid + Check>(
     extension: &ExtensionRef<'_>,
 ) -> bool

@@ -43,7 +43,7 @@ fn is_in_scope(point: &IssuingDistributionPoint, is_ca: bool) -> bool
     !point.only_contains_ca_certs || is_ca
 }
 
-/// The same of a CRL that may have no IssuingDistributionPoint.
+/// Whether the scope of a CRL has the certificate; a CRL without an IssuingDistributionPoint is for all.
 pub(crate) fn are_in_scope(
     alloc: Global,
     certificate: &CertificateRef<'_>,

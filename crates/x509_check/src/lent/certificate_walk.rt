@@ -88,7 +88,7 @@ fn walk_fields<P: Profile>(octets: &[u8]) -> Result<WalkedFields<'_>, Error>
     })
 }
 
-/// The same of the signed part at the front.
+/// Walks the signed part at the front.
 #[inline(always)]
 fn walk_part<'a, P: Profile>(rest: &mut &'a [u8]) -> Result<WalkedFields<'a>, Error>
     requires { length rest.old.now ≤ limit }

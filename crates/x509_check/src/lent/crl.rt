@@ -33,12 +33,13 @@ pub struct CrlRef<'a, P: Profile = Rfc5280> {
 }
 
 impl<'a, P: Profile> CrlRef<'a, P> {
-    ghost use Rattle.std.specs.Prelude.{◌≡◌, ◌<◌, ◌≤◌, ◌⊎◌, length, option_copied, option_map, Err, IfOk, IfErr, IsErrAnd, IsOk};
+    ghost use Rattle.std.specs.List.{list_any};
+    ghost use Rattle.std.specs.Prelude.{◌≡◌, ◌<◌, ◌≤◌, ◌⊎◌, not, length, option_copied, option_map, Err, IfOk, IfErr, IsErrAnd, IsOk};
     ghost use Rattle.x509_base.specs.AlgorithmIdentifier.{algorithm_identifier};
     ghost use Rattle.x509_cert.specs.Revoked.{entries};
     ghost use Rattle.x509_cert.specs.Signed.{IsSignedPart};
     ghost use Rattle.x509_cert.specs.declared.crl.certificate_list.CertificateList as lists;
-    ghost use Rattle.x509_check.specs.CrlRefs.{FindsInList, entries_in, entry_list};
+    ghost use Rattle.x509_check.specs.CrlRefs.{FindsInList, entries_in, entry_list, is_marked};
     ghost use Rattle.x509_check.specs.ExtensionRefs.{extensions_left};
     ghost use Rattle.x509_der.specs.Element.{limit};
     ghost use Rattle.x509_der.specs.Form.{Spells, spelling, whole_reading};
@@ -148,6 +149,15 @@ impl<'a, P: Profile> CrlRef<'a, P> {
             → result ≡ length (entries list.tbs_cert_list.revoked_certificates) }
     {
         self.parts.fields.entry_count
+    }
+
+    /// Whether no entry has an extension that is critical, or is a [`CertificateIssuer`](x509_ext::pkix::CertificateIssuer) (RFC 5280
+    /// 5.3). Then each entry is that of a certificate of the CRL's issuer, and no extension of it stands against the use of the CRL.
+    pub fn has_plain_entries(&self) -> bool
+        ensures { (list : lists.CertificateList P) → Spells ⟦<CertificateList<P> as Grammar>⟧.form list self.now.bytes.now
+            → result ≡ not (list_any is_marked (entries list.tbs_cert_list.revoked_certificates)) }
+    {
+        !self.parts.fields.has_marked
     }
 
     /// The first entry whose serial number has these content octets; `None` exactly where no entry has it. It is the entry

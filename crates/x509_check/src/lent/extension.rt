@@ -44,7 +44,7 @@ fn read_content(octets: &[u8]) -> Result<ExtensionRef<'_>, Error>
     })
 }
 
-/// Whether two OIDs may be the same: they have as many content octets, and the same last one.
+/// Whether two OIDs or serial numbers may be the same: they have as many content octets, and the same last one.
 #[inline(always)]
 fn is_like(one: &[u8], other: &[u8]) -> bool
     ensures { one.now ≡ other.now → result ≡ true }
@@ -55,9 +55,10 @@ fn is_like(one: &[u8], other: &[u8]) -> bool
     }
 }
 
-/// Whether two OIDs have the same content octets. OIDs of extensions begin alike, so the last octets are compared first.
+/// Whether two OIDs or serial numbers have the same content octets. OIDs of extensions begin alike, as serial numbers of one issuer often do, so the last
+/// octets are compared first.
 #[inline(always)]
-fn is_same(one: &[u8], other: &[u8]) -> bool
+pub(crate) fn is_same(one: &[u8], other: &[u8]) -> bool
     ensures { result ≡ bytes_eq one.now other.now }
 {
     if !is_like(one, other) {

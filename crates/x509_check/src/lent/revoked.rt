@@ -1,6 +1,6 @@
 //! A walk over an encoded CRL, which checks it, lends its fields and looks for a serial number; and the look-up.
 
-ghost use Rattle.std.specs.Prelude.{◌≡◌, ◌<◌, ◌≤◌, ◌⊎◌, length, None, Ok, IfOk, IfErr, IsErrAnd, IsOk};
+ghost use Rattle.std.specs.Prelude.{◌≡◌, ◌<◌, ◌≤◌, ◌⊎◌, false, length, None, Ok, IfOk, IfErr, IsErrAnd, IsOk};
 ghost use Rattle.x509_cert.specs.CertificateList.{certificate_list, certificate_list_contents, tbs_cert_list, tbs_cert_list_contents};
 ghost use Rattle.x509_cert.specs.RevokedCert.{revoked_cert};
 ghost use Rattle.x509_cert.specs.declared.crl.certificate_list.CertificateList as lists;
@@ -17,6 +17,7 @@ ghost use Rattle.x509_der.specs.declared.error.ErrorKind.TheVariants as errors;
 use crate::element::next_element;
 use crate::lent::checked::{take_field, take_optional_explicit};
 use crate::lent::entry::{RevokedCertRef, known_entry, pass_entry};
+use crate::lent::extension::is_same;
 use crate::lent::fields::{take_optional_plain, take_optional_time, take_time};
 use x509_base::{AlgorithmIdentifier, Profile, Time};
 use x509_cert::certificate::Version;
@@ -50,6 +51,9 @@ pub(crate) struct ListFields<'a> {
     /// How many entries it has; none where it is absent.
     pub(crate) entry_count: usize,
 
+    /// Whether an entry has an extension that is critical or is a CertificateIssuer (RFC 5280 5.3).
+    pub(crate) has_marked: bool,
+
     /// The SEQUENCE OF Extension inside [0].
     pub(crate) crl_extensions: Option<&'a [u8]>,
 }
@@ -70,17 +74,20 @@ pub(crate) struct ListParts<'a> {
     pub(crate) signature: &'a [u8],
 }
 
-/// How many entries there are, and the first of them that has a serial number.
+/// How many entries there are, the first of them that has a serial number, and whether one is marked.
 #[derive(Clone, Copy)]
 pub(crate) struct PassedEntries<'a> {
     /// How many there are.
     pub(crate) count: usize,
 
+    /// Whether one is marked.
+    pub(crate) has_marked: bool,
+
     /// The first entry with the serial number.
     pub(crate) found: Option<RevokedCertRef<'a>>,
 }
 
-/// A list of entries, which may be absent, how many they are, and the first of them that has a serial number.
+/// A list of entries, which may be absent, how many they are, the first of them that has a serial number, and whether one is marked.
 #[derive(Clone, Copy)]
 pub(crate) struct WalkedEntries<'a> {
     /// The list.
@@ -89,11 +96,14 @@ pub(crate) struct WalkedEntries<'a> {
     /// How many entries there are.
     pub(crate) count: usize,
 
+    /// Whether one is marked.
+    pub(crate) has_marked: bool,
+
     /// The first entry with the serial number.
     pub(crate) found: Option<RevokedCertRef<'a>>,
 }
 
-/// The same of the signed part of a CRL, with its fields.
+/// What walking the signed part of a CRL found: its fields, and the entry that was looked for.
 #[derive(Clone, Copy)]
 pub(crate) struct WalkedPart<'a> {
     /// The fields.
@@ -103,7 +113,7 @@ pub(crate) struct WalkedPart<'a> {
     pub(crate) found: Option<RevokedCertRef<'a>>,
 }
 
-/// The same of a CRL.
+/// What walking a CRL found: its parts, and the entry that was looked for.
 #[derive(Clone, Copy)]
 pub(crate) struct Walked<'a> {
     /// The parts of the CRL.
@@ -113,7 +123,8 @@ pub(crate) struct Walked<'a> {
     pub(crate) found: Option<RevokedCertRef<'a>>,
 }
 
-/// How many entries there are, and the first of them with the serial number. The bytes are the elements of the entries, one after the other.
+/// How many entries there are, the first of them with the serial number, and whether one is marked. The bytes are the elements of the entries, one after
+/// the other.
 fn find_in_entries<'a, P: Profile>(
     octets: &'a [u8],
     serial_number: &[u8],
@@ -123,12 +134,14 @@ fn find_in_entries<'a, P: Profile>(
 {
     let mut rest = octets;
     let mut count = 0;
+    let mut has_marked = false;
     let mut found: Option<RevokedCertRef<'a>> = None;
     while !rest.is_empty() {
         match pass_entry::<P>(rest) {
-            Ok((number, others)) => {
+            Ok((number, others, is_marked)) => {
                 count += 1;
-                if found.is_none() && number == serial_number {
+                has_marked = has_marked | is_marked;
+                if found.is_none() && is_same(number, serial_number) {
                     found = Some(known_entry::<P>(rest).0);
                 }
                 rest = others;
@@ -136,7 +149,11 @@ fn find_in_entries<'a, P: Profile>(
             Err(e) => return Err(e),
         }
     }
-    Ok(PassedEntries { count, found })
+    Ok(PassedEntries {
+        count,
+        has_marked,
+        found,
+    })
 }
 
 /// The content of the element at the front; nothing where none stands there.
@@ -164,7 +181,7 @@ pub(crate) fn find_in_checked<'a, P: Profile>(
         let Ok(piece) = next_element(rest, Tag::Sequence) else {
             return None;
         };
-        if first_content(piece.content) == serial_number {
+        if is_same(first_content(piece.content), serial_number) {
             return Some(known_entry::<P>(rest).0);
         }
         rest = piece.rest;
@@ -192,6 +209,7 @@ fn walk_sequence<'a, P: Profile>(
         Ok(passed) => Ok(WalkedEntries {
             element: Some(&front[..front.len() - piece.rest.len()]),
             count: passed.count,
+            has_marked: passed.has_marked,
             found: passed.found,
         }),
         Err(e) => Err(e),
@@ -202,16 +220,18 @@ fn walk_sequence<'a, P: Profile>(
 fn walked_none<'a>() -> WalkedEntries<'a>
     ensures element { result.element ≡ None }
     ensures count { result.count ≡ 0 }
+    ensures has_marked { result.has_marked ≡ false }
     ensures found { result.found ≡ None }
 {
     WalkedEntries {
         element: None,
         count: 0,
+        has_marked: false,
         found: None,
     }
 }
 
-/// The same of a list that may be left out.
+/// Walks the list of entries at the front, which may be left out.
 fn walk_field<'a, P: Profile>(
     rest: &mut &'a [u8],
     serial_number: &[u8],
@@ -227,7 +247,7 @@ fn walk_field<'a, P: Profile>(
     }
 }
 
-/// The same of the signed part of a CRL with these content octets (RFC 5280 5.1.2).
+/// Walks the signed part of a CRL with these content octets (RFC 5280 5.1.2).
 #[tactic(auto, unfolding(x509_cert::specs::CertificateList::tbs_cert_list_fields, x509_der::specs::Frames::fields_reading))]
 fn walk_content<'a, P: Profile>(
     octets: &'a [u8],
@@ -255,6 +275,7 @@ fn walk_content<'a, P: Profile>(
                     next_update,
                     revoked_certificates: walked.element,
                     entry_count: walked.count,
+                    has_marked: walked.has_marked,
                     crl_extensions,
                 },
                 found: walked.found,
@@ -264,7 +285,7 @@ fn walk_content<'a, P: Profile>(
     }
 }
 
-/// The same of the signed part at the front.
+/// Walks the signed part at the front.
 fn walk_part<'a, P: Profile>(
     rest: &mut &'a [u8],
     serial_number: &[u8],
@@ -282,7 +303,7 @@ fn walk_part<'a, P: Profile>(
     walk_content::<P>(piece.content, serial_number)
 }
 
-/// The same of a CRL with these content octets (RFC 5280 5.1.1).
+/// Walks a CRL with these content octets (RFC 5280 5.1.1).
 #[tactic(auto, unfolding(x509_cert::specs::CertificateList::certificate_list_fields, x509_der::specs::Frames::fields_reading))]
 fn walk_list<'a, P: Profile>(octets: &'a [u8], serial_number: &[u8]) -> Result<Walked<'a>, Error>
     requires { length octets.now ≤ limit }
@@ -309,7 +330,7 @@ fn walk_list<'a, P: Profile>(octets: &'a [u8], serial_number: &[u8]) -> Result<W
     }
 }
 
-/// The same of the CRL that the bytes are the encoding of, which is checked on the way.
+/// Walks the CRL that the bytes are the encoding of, and checks it on the way.
 #[tactic(auto, unfolding(x509_der::specs::Form::whole_reading))]
 pub(crate) fn walk_whole<'a, P: Profile>(
     bytes: &'a [u8],

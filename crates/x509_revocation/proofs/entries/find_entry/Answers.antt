@@ -3,7 +3,7 @@ use Rattle.std.proofs.lemmas.Bool.{true≢false}
 use Rattle.std.specs.Bool.{IsTrue}
 use Rattle.x509_base.specs.Profiles.{rfc5280_serial_number}
 use Rattle.x509_base.specs.declared.profile.Rfc5280.{Rfc5280}
-use Rattle.x509_check.specs.CrlRefs.{entries_in, lent_entry}
+use Rattle.x509_check.specs.CrlRefs.{FindsInList, entries_in, lent_entry}
 use Rattle.x509_ext.specs.LookUp.{members}
 use Rattle.x509_ext.specs.declared.extension.Extension.{Extension}
 use Rattle.x509_path.proofs.Lent as certificates
@@ -12,10 +12,28 @@ use Rattle.x509_revocation.specs.Entries.{FindsAmong, IsIssuer, IsUsable, listed
 use Rattle.x509_revocation.specs.LentEntries.{Settles}
 use Rattle.x509_revocation.proofs.Looks.{breaks, passes, whole_for}
 use Rattle.x509_revocation.proofs.Parts.{issuer_spells}
+use Rattle.x509_revocation.proofs.Plain.{all_usable, finds_none, finds_plain, none_is}
 use Rattle.x509_revocation.proofs.Settled.{of_entry}
 use Rattle.x509_revocation.proofs.Seeks.{another, first, kept, starts}
 use Rattle.x509_revocation.proofs.entries.find_entry.Goals as goal
 use Rattle.x509_revocation.proofs.entries.find_entry.Goals.{else-is_none-via-then-is_none+else-is_of, else-is_none-via-else-is_none}
+
+pub returns-then-not-is_issuer : goal.returns-then-not-is_issuer
+returns-then-not-is_issuer c = λ certificate list lends spells.
+    let none = none_is _ _ (c.has_plain_entries.ensures list spells) c.if-has_plain_entries.true in
+    let name = certificates.issuer_spells certificate c.args.certificate.now.bytes.now lends c.issuer-2.result.now (c.issuer-2.ensures certificate lends) in
+    let own = issuer_spells list c.args.crl.now.bytes.now spells c.issuer.result.now (c.issuer.ensures list spells) in
+    let same = c.in_ok-is_issuer.ensures list.tbs_cert_list.issuer certificate.tbs_certificate.issuer own name in
+    (all_usable c.args.is_indirect (entries_of list) none, finds_none certificate list (entries_of list) none (λ issuer. true≢false (sym (same.1 issuer) ∙ c.if-not-is_issuer.true)))
+
+pub returns-then-has_plain_entries : goal.returns-then-has_plain_entries
+returns-then-has_plain_entries c = λ certificate list lends spells.
+    let none = none_is _ _ (c.has_plain_entries.ensures list spells) c.if-has_plain_entries.true in
+    let name = certificates.issuer_spells certificate c.args.certificate.now.bytes.now lends c.issuer-2.result.now (c.issuer-2.ensures certificate lends) in
+    let own = issuer_spells list c.args.crl.now.bytes.now spells c.issuer.result.now (c.issuer.ensures list spells) in
+    let same = c.in_ok-is_issuer.ensures list.tbs_cert_list.issuer certificate.tbs_certificate.issuer own name in
+    let found = subst (λ number. FindsInList number list c.find.result) (c.serial_number-serial_number.ensures certificate lends) (c.find.ensures list spells) in
+    (all_usable c.args.is_indirect (entries_of list) none, finds_plain certificate list (entries_of list) c.find.result none (same.0 c.if-not-is_issuer.false) found)
 
 pub loop-entry-init : goal.loop-entry-init
 loop-entry-init c = λ certificate list lends spells.

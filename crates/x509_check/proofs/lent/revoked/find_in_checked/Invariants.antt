@@ -6,11 +6,11 @@ use Rattle.x509_check.specs.contracts.lent.revoked.find_in_checked.{P-type}
 use Rattle.x509_check.proofs.lent.revoked.find_in_checked.Given as goal
 
 -- none of those that were passed has the number
-abbrev pub invariant-loop-serial_number : goal.invariant-loop-serial_number
-invariant-loop-serial_number g l = record {
+abbrev pub invariant-loop-rest : goal.invariant-loop-rest
+invariant-loop-rest g l = record {
   within : length l.rest ≤ length l.octets;
   left : (left : List (RevokedCert (P-type g.row.P))) × AreLeft {P = P-type g.row.P} g.P.Profile.serial_check l.serial_number (entries_in g.P.Profile.serial_check l.octets) l.rest left;
 }
 
-abbrev pub decreases-loop-serial_number : goal.decreases-loop-serial_number
-decreases-loop-serial_number g l = length l.rest
+abbrev pub decreases-loop-rest : goal.decreases-loop-rest
+decreases-loop-rest g l = length l.rest

@@ -12,6 +12,6 @@ returns-in-len1-up-clause-exact g c = so_here (WalksEntries g.P.Profile.serial_c
 pub returns-in_default-clause-exact : goal.returns-in_default-clause-exact
 returns-in_default-clause-exact g c =
     elim c.in_default.branch [
-      | in_default-via-then-rest-lt1 w ↦ so_none_left (WalksEntries g.P.Profile.serial_check c.args.serial_number.now) (WalksAmong g.P.Profile.serial_check c.args.serial_number.now) _ _ c.walked_none.result (rw c.walked_none.ensures.found refl, rw c.walked_none.ensures.element refl, rw c.walked_none.ensures.count refl) _ (grind (arith, nat_tests))
-      | in_default-via-in-len1-up+else-octet-eq48 w ↦ so_other (WalksEntries g.P.Profile.serial_check c.args.serial_number.now) (WalksAmong g.P.Profile.serial_check c.args.serial_number.now) _ _ c.walked_none.result (rw c.walked_none.ensures.found refl, rw c.walked_none.ensures.element refl, rw c.walked_none.ensures.count refl) _ (not_among_one _ _ w.if-octet-eq48.false)
+      | in_default-via-then-rest-lt1 w ↦ so_none_left (WalksEntries g.P.Profile.serial_check c.args.serial_number.now) (WalksAmong g.P.Profile.serial_check c.args.serial_number.now) _ _ c.walked_none.result (rw c.walked_none.ensures.found refl, rw c.walked_none.ensures.element refl, rw c.walked_none.ensures.count refl, rw c.walked_none.ensures.has_marked refl) _ (grind (arith, nat_tests))
+      | in_default-via-in-len1-up+else-octet-eq48 w ↦ so_other (WalksEntries g.P.Profile.serial_check c.args.serial_number.now) (WalksAmong g.P.Profile.serial_check c.args.serial_number.now) _ _ c.walked_none.result (rw c.walked_none.ensures.found refl, rw c.walked_none.ensures.element refl, rw c.walked_none.ensures.count refl, rw c.walked_none.ensures.has_marked refl) _ (not_among_one _ _ w.if-octet-eq48.false)
     ]

@@ -22,7 +22,7 @@ returns-in-Ok-clause-exact g c =
     let form = entry_list {P = g.row.P.Denot} g.P.Profile.serial_check in
     let read = own_field _ _ _ _ h.0 c.in_ok-piece.ensures.exact (rw c.octet.ensures.octet at c.if-piece-octet.false) h.1 in
     let front = front_is form (entry_list_lawful g.P.Profile.serial_check) _ _ h.0 read in
-    (h.0, read, (h.2.0, rw front refl, h.2.1))
+    (h.0, read, (h.2.0, rw front refl, h.2.1, h.2.2))
 
 pub returns-in-Err-clause-exact : goal.returns-in-Err-clause-exact
 returns-in-Err-clause-exact g c =
