@@ -1,5 +1,5 @@
 -- Where memory is taken: certificates of more than 16 extensions.
-use Rattle.std.proofs.Common.{◌≡◌, ◌⊎◌, ℕ, ◌<◌, List, length, get_or, map, Result, Err, refl, subst, ap, inl, inr, arith}
+use Rattle.std.proofs.Common.{◌≡◌, ◌⊎◌, ℕ, ◌<◌, ◌≤◌, min, List, length, get_or, map, Result, Err, refl, subst, ap, inl, inr, arith}
 use Rattle.std.proofs.lemmas.List.{get_or-map, length-map}
 use Rattle.std.proofs.lemmas.List.Elements.{Contains-get_or}
 use Rattle.std.specs.List.{Contains}
@@ -18,20 +18,18 @@ pub refused_too : {X Y : Type 0} (e f : PathFault) → refused {X = X} e ≡ ref
 refused_too e f is = let same : e ≡ f = cc in rw same refl
 
 module _ {A : Type 0} where
-  -- more than 16 that are lent are more than 16 of the certificate
-  many_among : (lent : List ExtensionRef) (extensions : List Extension) → lent_extensions lent ≡ extensions → A ⊎ (16 < length lent) → A ⊎ (16 < length extensions)
-  many_among lent extensions same (inl taken) = inl taken
-  many_among lent extensions same (inr many) = inr (let len : length (lent_extensions lent) ≡ length lent = length-map lent lent_extension in omega (arith, many, len, ap length same))
+  -- more that are lent than 16 are more of the certificate than the places, or than 16
+  pub many_among : (few : ℕ) (lent : List ExtensionRef) (extensions : List Extension) → lent_extensions lent ≡ extensions → A ⊎ (16 < length lent) → A ⊎ (min few 16 < length extensions)
+  many_among few lent extensions same (inl taken) = inl taken
+  many_among few lent extensions same (inr many) = inr (let len : length (lent_extensions lent) ≡ length lent = length-map lent lent_extension in omega (arith, many, len, ap length same))
 
-  of_these : (c : Certificate) (bytes : List ℕ) → Lends bytes c → A ⊎ (16 < length (extensions_of c)) → A ⊎ HasMany bytes
-  of_these c bytes lends (inl taken) = inl taken
-  of_these c bytes lends (inr many) = inr (c, lends, many)
+  -- and so are more than the places
+  pub many_beside : (few : ℕ) (left extensions : List Extension) → left ≡ extensions → few < length left → A ⊎ (min few 16 < length extensions)
+  many_beside few left extensions same many = inr (omega (arith, many, ap length same))
 
-  pub lent_from : (c : Certificate) (bytes : List ℕ) → Lends bytes c → (lent : List ExtensionRef) → lent_extensions lent ≡ extensions_of c → A ⊎ (16 < length lent) → A ⊎ HasMany bytes
-  lent_from c bytes lends lent same many = of_these c bytes lends (many_among lent (extensions_of c) same many)
-
-  pub left_of : (c : Certificate) (bytes : List ℕ) → Lends bytes c → (left : List Extension) → left ≡ extensions_of c → 16 < length left → A ⊎ HasMany bytes
-  left_of c bytes lends left same many = inr (c, lends, omega (arith, many, ap length same))
+  pub of_these : (few : ℕ) (c : Certificate) (bytes : List ℕ) → Lends bytes c → 16 ≤ few → A ⊎ (min few 16 < length (extensions_of c)) → A ⊎ HasMany bytes
+  of_these few c bytes lends enough (inl taken) = inl taken
+  of_these few c bytes lends enough (inr many) = inr (c, lends, omega (arith, enough, many))
 
   -- the input at that place
   pub one_of : {X : Type 0} (v : X → List ℕ) (xs : List X) (i : ℕ) (d : X) → i < length xs → A ⊎ HasMany (v (get_or xs i d)) → A ⊎ ((input : List ℕ) × Contains (map v xs) input × HasMany input)

@@ -1,11 +1,15 @@
 -- What a look-up of the one value says of what is asked of it.
-use Rattle.std.proofs.Common.{◌≡◌, ◌↔◌, ℕ, Bool, true, false, not, List, [], Option, Some, None, refl, sym, ◌∙◌}
+use Rattle.std.proofs.Common.{◌≡◌, ◌↔◌, ◌≤◌, ℕ, Bool, true, false, not, List, [], Option, Some, None, ap, arith, length, refl, sym, ◌∙◌}
 use Rattle.std.proofs.lemmas.Bool.{true≢false}
 use Rattle.std.specs.Bool.{IsTrue}
 
 turned : (b : Bool) → not b ≡ true → b ≡ false
 turned true e = sym e
 turned false e = refl
+
+is_there : {X : Type 0} (xs : List X) (any : Bool) → (any ≡ false → xs ≡ []) → (xs ≡ [] → ⊥) → any ≡ true
+is_there xs true none some = refl
+is_there xs false none some = absurd (some (none refl))
 
 module _ {T : Type 0} (Has : T → Type 0) (found : Option T) (h : (v : T) → Has v ↔ (found ≡ Some v)) where
   same : (v w : T) → found ≡ Some v → Has w → w ≡ v
@@ -29,5 +33,9 @@ module _ {T : Type 0} (Has : T → Type 0) (found : Option T) (h : (v : T) → H
     (λ (more, all). let e = all v ((h v).1 is) in rw e refl),
   )
 
-  pub lacks_all : {X : Type 0} (xs : List X) → (xs ≡ [] → ⊥) → found ≡ None → (test : T → Bool) → IsTrue true ↔ ((xs ≡ [] → ⊥) × ((w : T) → Has w → test w ≡ false))
-  lacks_all xs some is test = ((λ yes. (some, λ w has. let e : None ≡ Some w = sym is ∙ (h w).0 has in cc)), (λ all. refl))
+  pub lacks_none : {X : Type 0} (xs : List X) (any : Bool) → (any ≡ false → xs ≡ []) → (any ≡ true → 1 ≤ length xs) → found ≡ None → (test : T → Bool)
+      → IsTrue any ↔ ((xs ≡ [] → ⊥) × ((w : T) → Has w → test w ≡ false))
+  lacks_none xs any none some is test = (
+    (λ yes. ((λ e. omega (arith, ap length e, some yes)), λ w has. let e : None ≡ Some w = sym is ∙ (h w).0 has in cc)),
+    (λ all. is_there xs any none all.0),
+  )

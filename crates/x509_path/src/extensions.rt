@@ -50,7 +50,10 @@ pub fn places<'a>() -> [ExtensionRef<'a>; FEW_EXTENSIONS]
 }
 
 /// How many extensions there are, each lent to a place, from the first on; `None` where the places are too few.
-fn gather<'a>(extensions: ExtensionRefs<'a>, few: &mut [ExtensionRef<'a>]) -> Option<usize>
+pub(crate) fn gather<'a>(
+    extensions: ExtensionRefs<'a>,
+    few: &mut [ExtensionRef<'a>],
+) -> Option<usize>
     ensures few { IfSome result (λ count. (count ≤ length few.new) × (lent_extensions (take count few.new) ≡ extensions_left extensions.entry)) }
     ensures many { result ≡ None → length few.old < length (extensions_left extensions.entry) }
     ensures places { length few.new ≡ length few.old }
@@ -91,7 +94,10 @@ pub fn collect<'a>(
 
 /// The first extensions.
 #[inline(always)]
-fn front<'s, 'a>(extensions: &'s [ExtensionRef<'a>], count: usize) -> &'s [ExtensionRef<'a>]
+pub(crate) fn front<'s, 'a>(
+    extensions: &'s [ExtensionRef<'a>],
+    count: usize,
+) -> &'s [ExtensionRef<'a>]
     requires { count ≤ length extensions.now }
     ensures { result.now ≡ take count extensions.now }
 {
@@ -215,10 +221,7 @@ pub fn is_repeated(alloc: Global, extensions: &[ExtensionRef<'_>]) -> Result<boo
 pub fn is_readable<T: AssociatedOid + Check>(extension: &ExtensionRef<'_>) -> bool
     ensures { IsTrue result ↔ certificates.IsReadable T.form T.OID (lent_extension extension.now) }
 {
-    if extension.extn_id != T::OID {
-        return false;
-    }
-    T::check(extension.extn_value).is_ok()
+    is_of(extension, &T::OID) && T::check(extension.extn_value).is_ok()
 }
 
 /// Whether the extension is of a type that is processed here, and can be decoded.
@@ -300,11 +303,8 @@ pub fn path_len(constraints: Option<BasicConstraints>) -> Option<u8>
 pub fn lacks_key_cert_sign(alloc: Global, extensions: &[ExtensionRef<'_>]) -> bool
     ensures { IsTrue result ↔ certificates.LacksKeyCertSign (lent_extensions extensions.now) }
 {
-    if !has_any(extensions, KeyUsage::OID) {
-        return false;
-    }
     match payload::<KeyUsage>(alloc, extensions) {
         Some(usage) => !usage.key_cert_sign(),
-        None => true,
+        None => has_any(extensions, KeyUsage::OID),
     }
 }

@@ -9,7 +9,8 @@ ghost use Rattle.x509_path.specs.declared.fault.PathReason.TheVariants as reason
 use crate::anchor_ref::AnchorRef;
 use crate::certificate::{has_two_algorithms, is_outside};
 use crate::extensions::{
-    are_handled, basic_constraints, is_ca, is_repeated, lacks_key_cert_sign, lend_all, places,
+    are_handled, basic_constraints, collect, front, gather, is_ca, is_repeated,
+    lacks_key_cert_sign, places,
 };
 use crate::fault::{PathFault, PathReason};
 use crate::lengths::is_over;
@@ -91,7 +92,7 @@ pub(crate) struct Judge<'t, T> {
 }
 
 impl<T: Trust> Judge<'_, T> {
-    ghost use Rattle.std.specs.Prelude.{◌≡◌, ◌≢◌, ◌↔◌, ◌<◌, ◌⊎◌, length, List, None, Ok, Err, IfOk, IfErr, IsTrue, MatchResult, false};
+    ghost use Rattle.std.specs.Prelude.{◌≡◌, ◌≢◌, ◌↔◌, ◌<◌, ◌⊎◌, length, min, List, None, Ok, Err, IfOk, IfErr, IsTrue, MatchResult, false};
     ghost use Rattle.x509_path.specs.Certificates as certificates;
     ghost use Rattle.x509_path.specs.Lent.{HasMany, Lends, StandsAbove, lent_extensions};
     ghost use Rattle.x509_path.specs.Path.{Breaks};
@@ -190,6 +191,48 @@ impl<T: Trust> Judge<'_, T> {
         Ok(constraints)
     }
 
+    /// [`judge_lent`](Self::judge_lent) of any number of extensions.
+    fn judge_many(
+        &self,
+        place: &Place<'_>,
+        certificate: &CertificateRef<'_>,
+        index: usize,
+    ) -> Result<Option<BasicConstraints>, PathFault>
+        ensures { (c : certificates.Certificate) (above : Anchor) → Lends certificate.now.bytes.now c
+            → StandsAbove (T.is_anchor self.now.trust.now) place.now.above above → (before : List certificates.Certificate)
+            → Leaves certificates.AreEqual None before place.now.max_path_length → JudgesLent (T.accepts self.now.trust.now) self.now.moment
+            (standing above.name above.key before place.now.is_last) certificate.now.bytes.now index c result }
+    {
+        match collect(self.alloc, certificate.extensions()) {
+            Ok(many) => self.judge_lent(place, certificate, many.as_slice(), index),
+            Err(_) => Err(PathFault::Memory),
+        }
+    }
+
+    /// [`judge_lent`](Self::judge_lent) of the extensions that the places hold, or of any number where these are too few.
+    fn judge_within<'a>(
+        &self,
+        place: &Place<'_>,
+        certificate: &CertificateRef<'a>,
+        few: &mut [ExtensionRef<'a>],
+        index: usize,
+    ) -> Result<Option<BasicConstraints>, PathFault>
+        ensures judged { (c : certificates.Certificate) (above : Anchor) → Lends certificate.now.bytes.now c
+            → StandsAbove (T.is_anchor self.now.trust.now) place.now.above above → (before : List certificates.Certificate)
+            → Leaves certificates.AreEqual None before place.now.max_path_length → JudgesLent (T.accepts self.now.trust.now) self.now.moment
+            (standing above.name above.key before place.now.is_last) certificate.now.bytes.now index c result }
+        ensures memory { (c : certificates.Certificate) → Lends certificate.now.bytes.now c → result ≡ Err Memory
+            → T.takes_memory ⊎ (min (length few.old) 16 < length (certificates.extensions_of c)) }
+    {
+        match gather(certificate.extensions(), few) {
+            Some(count) => {
+                let extensions = front(few, count);
+                self.judge_lent(place, certificate, extensions, index)
+            }
+            None => self.judge_many(place, certificate, index),
+        }
+    }
+
     /// The certificate of these bytes, where nothing is wrong with it; `index` is its place.
     pub(crate) fn judge<'a>(
         &self,
@@ -209,9 +252,7 @@ impl<T: Trust> Judge<'_, T> {
             Err(_) => return Err(unreadable(index)),
         };
         let mut few = places();
-        let mut many = Vec::new(self.alloc);
-        let extensions = lend_all(self.alloc, certificate.extensions(), &mut few, &mut many)?;
-        match self.judge_lent(place, &certificate, extensions, index) {
+        match self.judge_within(place, &certificate, &mut few, index) {
             Ok(constraints) => Ok(Judged {
                 certificate,
                 constraints,
