@@ -131,12 +131,16 @@ fn is_beyond_type<T: AssociatedOid>(beyond: Beyond, extension: &Extension) -> bo
     is_of::<T>(extension) && has_beyond(beyond, extension.extn_value.as_bytes())
 }
 
-fn are_beyond_type<T: AssociatedOid>(beyond: Beyond, extensions: &[Extension]) -> bool
-    ensures { result ≡ list_any (λ e. is_of T.OID e && grammar.has_beyond beyond e.extn_value) extensions.now }
+fn are_beyond_type<T: AssociatedOid>(beyond: Beyond, mut extensions: &[Extension]) -> bool
+    ensures { result ≡ list_any (λ e. is_of T.OID e && grammar.has_beyond beyond e.extn_value) extensions.entry.now }
 {
-    extensions
-        .iter()
-        .any(|extension| is_beyond_type::<T>(beyond, extension))
+    while let [first, rest @ ..] = extensions {
+        if is_beyond_type::<T>(beyond, first) {
+            return true;
+        }
+        extensions = rest;
+    }
+    false
 }
 
 /// Whether no value of the type is read, and an extension of it has something that can't be held.

@@ -10,6 +10,7 @@ ghost use Rattle.x509_lint.specs.Values.{IsDistinct};
 
 use crate::dates::names_moment;
 use crate::extensions::{is_critical, is_of, is_uncritical};
+use crate::lists::{Test, all_of, any_of};
 use crate::texts::is_digit;
 use std::alloc::Global;
 use x509_base::Raw;
@@ -58,6 +59,9 @@ impl AssociatedOid for InvalidityDate {
     const OID: ObjectIdentifier = oid!(0x55, 0x1D, 24);
 }
 
+/// The numbers of the reasons.
+const REASONS: [u8; 10] = [0, 1, 2, 3, 4, 5, 6, 8, 9, 10];
+
 /// Whether the octets are the DER of the reason with the number.
 fn is_number(octets: &[u8], number: u8) -> bool
     ensures { result ≡ bytes_eq octets.now (reason_octets number) }
@@ -65,18 +69,38 @@ fn is_number(octets: &[u8], number: u8) -> bool
     octets == [0x0A, 0x01, number].as_slice()
 }
 
+/// That the octets are the DER of the reason with a number.
+#[derive(Clone, Copy)]
+struct NumberIn<'a>(&'a [u8]);
+
+impl Test<u8> for NumberIn<'_> {
+    ghost use Rattle.std.specs.Prelude.{bytes_eq};
+    ghost use Rattle.x509_lint.specs.CrlEntry.{reason_octets};
+
+    ghost holds_of = { λ test number. bytes_eq test.0.now (reason_octets number) };
+
+    fn holds_of(&self, number: &u8) -> bool {
+        is_number(self.0, *number)
+    }
+}
+
 fn is_reason(octets: &[u8]) -> bool
     ensures { result ≡ is_reason octets.now }
 {
-    [0, 1, 2, 3, 4, 5, 6, 8, 9, 10]
-        .iter()
-        .any(|number| is_number(octets, *number))
+    any_of(&NumberIn(octets), &REASONS)
 }
 
-fn are_digits(octets: &[u8]) -> bool
-    ensures { result ≡ list_all is_digit octets.now }
-{
-    octets.iter().all(|octet| is_digit(*octet))
+/// That an octet is a digit.
+struct Digit;
+
+impl Test<u8> for Digit {
+    ghost use Rattle.x509_lint.specs.Text.{is_digit};
+
+    ghost holds_of = { λ test. is_digit };
+
+    fn holds_of(&self, octet: &u8) -> bool {
+        is_digit(*octet)
+    }
 }
 
 fn begins_date(octets: &[u8]) -> bool
@@ -99,52 +123,48 @@ fn is_date(octets: &[u8]) -> bool
         return false;
     }
     begins_date(&octets[..2])
-        && (are_digits(&octets[2..16]) && (ends_date(&octets[16..]) && names_moment(&octets[2..])))
+        && (all_of(&Digit, &octets[2..16])
+            && (ends_date(&octets[16..]) && names_moment(&octets[2..])))
 }
 
-/// Whether the extension has the fault.
-fn is_faulty(fault: EntryFault, extension: &Extension) -> bool
-    ensures { result ≡ is_faulty fault extension.now }
-{
-    match fault {
-        EntryFault::ReasonCritical => is_critical::<CrlReason>(extension),
-        EntryFault::ReasonUnspecified => {
-            is_of::<CrlReason>(extension) && is_number(extension.extn_value.as_bytes(), 0)
+impl Test<Extension> for EntryFault {
+    ghost use Rattle.x509_lint.specs.CrlEntry.{is_faulty};
+
+    ghost holds_of = { is_faulty };
+
+    fn holds_of(&self, extension: &Extension) -> bool {
+        match self {
+            EntryFault::ReasonCritical => is_critical::<CrlReason>(extension),
+            EntryFault::ReasonUnspecified => {
+                is_of::<CrlReason>(extension) && is_number(extension.extn_value.as_bytes(), 0)
+            }
+            EntryFault::ReasonRemoveFromCrl => {
+                is_of::<CrlReason>(extension) && is_number(extension.extn_value.as_bytes(), 8)
+            }
+            EntryFault::ReasonInvalid => {
+                is_of::<CrlReason>(extension) && !is_reason(extension.extn_value.as_bytes())
+            }
+            EntryFault::InvalidityDateCritical => is_critical::<InvalidityDate>(extension),
+            EntryFault::InvalidityDateInvalid => {
+                is_of::<InvalidityDate>(extension) && !is_date(extension.extn_value.as_bytes())
+            }
+            EntryFault::IssuerNotCritical => is_uncritical::<CertificateIssuer>(extension),
+            EntryFault::Issuer => is_of::<CertificateIssuer>(extension),
         }
-        EntryFault::ReasonRemoveFromCrl => {
-            is_of::<CrlReason>(extension) && is_number(extension.extn_value.as_bytes(), 8)
-        }
-        EntryFault::ReasonInvalid => {
-            is_of::<CrlReason>(extension) && !is_reason(extension.extn_value.as_bytes())
-        }
-        EntryFault::InvalidityDateCritical => is_critical::<InvalidityDate>(extension),
-        EntryFault::InvalidityDateInvalid => {
-            is_of::<InvalidityDate>(extension) && !is_date(extension.extn_value.as_bytes())
-        }
-        EntryFault::IssuerNotCritical => is_uncritical::<CertificateIssuer>(extension),
-        EntryFault::Issuer => is_of::<CertificateIssuer>(extension),
     }
 }
 
-fn are_faulty(fault: EntryFault, extensions: &[Extension]) -> bool
-    ensures { result ≡ list_any (is_faulty fault) extensions.now }
-{
-    extensions
-        .iter()
-        .any(|extension| is_faulty(fault, extension))
-}
-
-fn is_faulty_entry(fault: EntryFault, entry: &RevokedCert<Raw>) -> bool
-    ensures { result ≡ list_any (is_faulty fault) (members entry.now.crl_entry_extensions) }
-{
-    are_faulty(fault, members(entry.crl_entry_extensions.as_ref()))
-}
-
 /// Whether an extension of an entry has the fault.
-pub(crate) fn has_fault(entries: &[RevokedCert<Raw>], fault: EntryFault) -> bool
-    ensures { result ≡ list_any (λ e. list_any (is_faulty fault) (members e.crl_entry_extensions)) entries.now }
+pub(crate) fn has_fault(mut entries: &[RevokedCert<Raw>], fault: EntryFault) -> bool
+    ensures { result ≡ list_any (λ e. list_any (is_faulty fault) (members e.crl_entry_extensions)) entries.entry.now }
 {
-    entries.iter().any(|entry| is_faulty_entry(fault, entry))
+    while let [first, rest @ ..] = entries {
+        if any_of(&fault, members(first.crl_entry_extensions.as_ref())) {
+            return true;
+        }
+        entries = rest;
+    }
+    false
 }
 
 #[tactic(auto, unfolding(crate::specs::Values::IsDistinct))]

@@ -53,25 +53,42 @@ pub(crate) fn is_uncritical<T: AssociatedOid>(extension: &Extension) -> bool
 pub fn has<T: AssociatedOid>(extensions: &[Extension]) -> bool
     ensures { result ≡ has T.OID extensions.now }
 {
-    extensions.iter().any(|extension| is_of::<T>(extension))
+    let mut rest = extensions;
+    while let [first, behind @ ..] = rest {
+        if is_of::<T>(first) {
+            return true;
+        }
+        rest = behind;
+    }
+    false
 }
 
 /// Whether some extension has the OID of the type, and is critical.
 pub fn has_critical<T: AssociatedOid>(extensions: &[Extension]) -> bool
     ensures { result ≡ has_critical T.OID extensions.now }
 {
-    extensions
-        .iter()
-        .any(|extension| is_critical::<T>(extension))
+    let mut rest = extensions;
+    while let [first, behind @ ..] = rest {
+        if is_critical::<T>(first) {
+            return true;
+        }
+        rest = behind;
+    }
+    false
 }
 
 /// Whether some extension has the OID of the type, and isn't critical.
 pub fn has_uncritical<T: AssociatedOid>(extensions: &[Extension]) -> bool
     ensures { result ≡ has_uncritical T.OID extensions.now }
 {
-    extensions
-        .iter()
-        .any(|extension| is_uncritical::<T>(extension))
+    let mut rest = extensions;
+    while let [first, behind @ ..] = rest {
+        if is_uncritical::<T>(first) {
+            return true;
+        }
+        rest = behind;
+    }
+    false
 }
 
 /// Whether the list is there, and has no member.

@@ -18,6 +18,7 @@ mod entry;
 pub mod extensions;
 mod facts;
 mod group;
+mod lists;
 mod names;
 mod notices;
 mod other_types;

@@ -10,8 +10,11 @@ ghost use Rattle.x509_lint.specs.Text as attribute_texts;
 ghost use Rattle.x509_lint.specs.Words.{is_empty, passes};
 ghost use Rattle.x509_lint.specs.declared.texts.TextFault.TheVariants.{Label, OtherCharacter, OtherType, Size};
 
+use crate::lists::{Test, all_of, any_of};
 use crate::passes;
-use crate::texts::{TextFault, has_faulty_text, is_ia5, is_ia5_string, is_utf8, is_utf8_string};
+use crate::texts::{
+    TextFault, has_attribute, has_faulty_text, is_ia5, is_ia5_string, is_utf8, is_utf8_string,
+};
 use crate::uris::{before, behind, contains, has_other_host, is_absolute, is_uri};
 use x509_der::{Any, ObjectIdentifier, Tag, oid};
 use x509_ext::pkix::name::GeneralName;
@@ -38,7 +41,7 @@ fn is_printable(tag: Tag) -> bool
 fn are_letters(octets: &[u8]) -> bool
     ensures { result ≡ list_all is_ascii_alphabetic octets.now }
 {
-    octets.iter().all(|octet| octet.is_ascii_alphabetic())
+    octets.iter().all(u8::is_ascii_alphabetic)
 }
 
 /// Whether the value is a PrintableString of two letters.
@@ -48,32 +51,38 @@ fn is_country(value: &Any) -> bool
     is_printable(value.tag()) && value.value().len() == 2 && are_letters(value.value())
 }
 
-/// Whether the attribute is a countryName whose value is none.
-#[tactic(auto, unfolding(x509_der::specs::Arcs::subidentifier))]
-fn is_no_country(attribute: &AttributeTypeAndValue) -> bool
-    ensures { result ≡ is_no_country attribute.now }
-{
-    attribute.oid == COUNTRY_NAME && !is_country(&attribute.value)
-}
+/// That an attribute is a countryName whose value is none.
+struct NoCountry;
 
-fn has_no_country_in(rdn: &RelativeDistinguishedName) -> bool
-    ensures { result ≡ list_any is_no_country rdn.now }
-{
-    rdn.as_slice().iter().any(is_no_country)
+impl Test<AttributeTypeAndValue> for NoCountry {
+    ghost use Rattle.x509_lint.specs.Name.{is_no_country};
+
+    ghost holds_of = { λ test. is_no_country };
+
+    #[tactic(auto, unfolding(x509_der::specs::Arcs::subidentifier))]
+    fn holds_of(&self, attribute: &AttributeTypeAndValue) -> bool {
+        attribute.oid == COUNTRY_NAME && !is_country(&attribute.value)
+    }
 }
 
 /// Whether a countryName of the name isn't a PrintableString of two letters.
 pub(crate) fn has_no_country(name: &Name) -> bool
     ensures { result ≡ has_no_country name.now }
 {
-    let rdns: &RdnSequence = name.as_ref();
-    rdns.as_slice().iter().any(has_no_country_in)
+    has_attribute(&NoCountry, name)
 }
 
-fn is_empty_rdn(rdn: &RelativeDistinguishedName) -> bool
-    ensures { result ≡ is_empty rdn.now }
-{
-    rdn.len() == 0
+/// That an RDN has no attribute.
+struct EmptyRdn;
+
+impl Test<RelativeDistinguishedName> for EmptyRdn {
+    ghost use Rattle.x509_lint.specs.Words.{is_empty};
+
+    ghost holds_of = { λ test rdn. is_empty rdn };
+
+    fn holds_of(&self, rdn: &RelativeDistinguishedName) -> bool {
+        rdn.len() == 0
+    }
 }
 
 /// Whether an RDN of the name has no attribute.
@@ -81,7 +90,7 @@ pub(crate) fn has_empty_rdn(name: &Name) -> bool
     ensures { result ≡ has_empty_rdn name.now }
 {
     let rdns: &RdnSequence = name.as_ref();
-    rdns.as_slice().iter().any(is_empty_rdn)
+    any_of(&EmptyRdn, rdns.as_slice())
 }
 
 /// Whether the name has no RDN.
@@ -91,45 +100,63 @@ pub(crate) fn is_empty_name(name: &Name) -> bool
     name.len() == 0
 }
 
-/// Whether the name is empty.
-fn is_empty_general_name(name: &GeneralName) -> bool
-    ensures { result ≡ is_empty_name name.now }
-{
-    match name {
-        GeneralName::OtherName(_) => false,
-        GeneralName::Rfc822Name(text) => text.as_str().as_bytes().is_empty(),
-        GeneralName::DnsName(text) => text.as_str().as_bytes().is_empty(),
-        GeneralName::DirectoryName(name) => is_empty_name(name),
-        GeneralName::EdiPartyName(_) => false,
-        GeneralName::UniformResourceIdentifier(text) => text.as_str().as_bytes().is_empty(),
-        GeneralName::IpAddress(octets) => octets.as_bytes().is_empty(),
-        GeneralName::RegisteredId(_) => false,
+/// That a name is empty.
+pub(crate) struct EmptyName;
+
+impl Test<GeneralName> for EmptyName {
+    ghost use Rattle.x509_lint.specs.Alternative.{is_empty_name};
+
+    ghost holds_of = { λ test. is_empty_name };
+
+    fn holds_of(&self, name: &GeneralName) -> bool {
+        match name {
+            GeneralName::OtherName(_) => false,
+            GeneralName::Rfc822Name(text) => text.as_str().as_bytes().is_empty(),
+            GeneralName::DnsName(text) => text.as_str().as_bytes().is_empty(),
+            GeneralName::DirectoryName(name) => is_empty_name(name),
+            GeneralName::EdiPartyName(_) => false,
+            GeneralName::UniformResourceIdentifier(text) => text.as_str().as_bytes().is_empty(),
+            GeneralName::IpAddress(octets) => octets.as_bytes().is_empty(),
+            GeneralName::RegisteredId(_) => false,
+        }
     }
 }
 
-/// Whether the name is a dNSName that isn't empty, and isn't a DNS name.
-fn is_no_dns_name(name: &GeneralName) -> bool
-    ensures { result ≡ is_no_dns_name name.now }
-{
-    match name {
-        GeneralName::DnsName(text) => {
-            let text = text.as_str().as_bytes();
-            !text.is_empty() && !is_preferred_name(text)
+/// That a name is a dNSName that isn't empty, and isn't a DNS name.
+pub(crate) struct NoDnsName;
+
+impl Test<GeneralName> for NoDnsName {
+    ghost use Rattle.x509_lint.specs.Alternative.{is_no_dns_name};
+
+    ghost holds_of = { λ test. is_no_dns_name };
+
+    fn holds_of(&self, name: &GeneralName) -> bool {
+        match name {
+            GeneralName::DnsName(text) => {
+                let text = text.as_str().as_bytes();
+                !text.is_empty() && !is_preferred_name(text)
+            }
+            _ => false,
         }
-        _ => false,
     }
 }
 
-/// Whether the name is an iPAddress that isn't empty, and has neither 4 nor 16 octets.
-fn is_no_address(name: &GeneralName) -> bool
-    ensures { result ≡ is_no_address name.now }
-{
-    match name {
-        GeneralName::IpAddress(octets) => {
-            let len = octets.as_bytes().len();
-            len != 0 && len != 4 && len != 16
+/// That a name is an iPAddress that isn't empty, and has neither 4 nor 16 octets.
+pub(crate) struct NoAddress;
+
+impl Test<GeneralName> for NoAddress {
+    ghost use Rattle.x509_lint.specs.Alternative.{is_no_address};
+
+    ghost holds_of = { λ test. is_no_address };
+
+    fn holds_of(&self, name: &GeneralName) -> bool {
+        match name {
+            GeneralName::IpAddress(octets) => {
+                let len = octets.as_bytes().len();
+                len != 0 && len != 4 && len != 16
+            }
+            _ => false,
         }
-        _ => false,
     }
 }
 
@@ -167,15 +194,20 @@ fn is_range(octets: &[u8]) -> bool
 fn is_partial(octet: u8) -> bool
     ensures { result ≡ is_partial octet }
 {
-    [0, 128, 192, 224, 240, 248, 252, 254]
-        .iter()
-        .any(|part| *part == octet)
+    [0, 128, 192, 224, 240, 248, 252, 254].contains(&octet)
 }
 
-fn are_zeros(octets: &[u8]) -> bool
-    ensures { result ≡ list_all (λ octet. octet == 0) octets.now }
-{
-    octets.iter().all(|octet| *octet == 0)
+/// That an octet is 0.
+struct Zero;
+
+impl Test<u8> for Zero {
+    ghost use Rattle.std.specs.Prelude.{◌==◌};
+
+    ghost holds_of = { λ test octet. octet == 0 };
+
+    fn holds_of(&self, octet: &u8) -> bool {
+        *octet == 0
+    }
 }
 
 /// Whether the octets are ones and zeros behind them.
@@ -184,7 +216,7 @@ fn is_mask(mut octets: &[u8]) -> bool
 {
     while let [first, rest @ ..] = octets {
         if *first != 255 {
-            return is_partial(*first) && are_zeros(rest);
+            return is_partial(*first) && all_of(&Zero, rest);
         }
         octets = rest;
     }
@@ -255,13 +287,7 @@ const ATOM_MARKS: [u8; 19] = *b"!#$%&'*+-/=?^_`{|}~";
 fn is_atom_octet(octet: u8) -> bool
     ensures { result ≡ is_atom_octet octet }
 {
-    octet.is_ascii_alphanumeric() || is_atom_mark(octet)
-}
-
-fn is_atom_mark(octet: u8) -> bool
-    ensures { result ≡ list_any (λ mark. mark == octet) atom_marks }
-{
-    ATOM_MARKS.iter().any(|mark| *mark == octet)
+    octet.is_ascii_alphanumeric() || ATOM_MARKS.contains(&octet)
 }
 
 fn begins_with(octet: u8, text: &[u8]) -> bool
@@ -346,65 +372,95 @@ fn is_mailbox(text: &[u8]) -> bool
     }
 }
 
-/// Whether the name is an rfc822Name that isn't empty, and isn't a mailbox.
-fn is_no_mailbox(name: &GeneralName) -> bool
-    ensures { result ≡ is_no_mailbox name.now }
-{
-    match name {
-        GeneralName::Rfc822Name(text) => {
-            let text = text.as_str().as_bytes();
-            !text.is_empty() && !is_mailbox(text)
+/// That a name is an rfc822Name that isn't empty, and isn't a mailbox.
+pub(crate) struct NoMailbox;
+
+impl Test<GeneralName> for NoMailbox {
+    ghost use Rattle.x509_lint.specs.Alternative.{is_no_mailbox};
+
+    ghost holds_of = { λ test. is_no_mailbox };
+
+    fn holds_of(&self, name: &GeneralName) -> bool {
+        match name {
+            GeneralName::Rfc822Name(text) => {
+                let text = text.as_str().as_bytes();
+                !text.is_empty() && !is_mailbox(text)
+            }
+            _ => false,
         }
-        _ => false,
     }
 }
 
-/// Whether the name is an rfc822Name.
-pub(crate) fn is_rfc822_name(name: &GeneralName) -> bool
-    ensures { result ≡ is_rfc822_name name.now }
-{
-    match name {
-        GeneralName::Rfc822Name(_) => true,
-        _ => false,
+/// That a name is an rfc822Name.
+pub(crate) struct Rfc822Name;
+
+impl Test<GeneralName> for Rfc822Name {
+    ghost use Rattle.x509_lint.specs.Alternative.{is_rfc822_name};
+
+    ghost holds_of = { λ test. is_rfc822_name };
+
+    fn holds_of(&self, name: &GeneralName) -> bool {
+        match name {
+            GeneralName::Rfc822Name(_) => true,
+            _ => false,
+        }
     }
 }
 
-/// Whether the name is a URI that isn't empty, and has no scheme or nothing behind it.
-fn is_relative(name: &GeneralName) -> bool
-    ensures { result ≡ is_relative name.now }
-{
-    match name {
-        GeneralName::UniformResourceIdentifier(text) => {
-            let text = text.as_str().as_bytes();
-            !text.is_empty() && !is_absolute(text)
+/// That a name is a URI that isn't empty, and has no scheme or nothing behind it.
+pub(crate) struct Relative;
+
+impl Test<GeneralName> for Relative {
+    ghost use Rattle.x509_lint.specs.Alternative.{is_relative};
+
+    ghost holds_of = { λ test. is_relative };
+
+    fn holds_of(&self, name: &GeneralName) -> bool {
+        match name {
+            GeneralName::UniformResourceIdentifier(text) => {
+                let text = text.as_str().as_bytes();
+                !text.is_empty() && !is_absolute(text)
+            }
+            _ => false,
         }
-        _ => false,
     }
 }
 
-/// Whether the name is an absolute URI of other syntax than RFC 3986 has.
-fn is_no_uri(name: &GeneralName) -> bool
-    ensures { result ≡ is_no_uri name.now }
-{
-    match name {
-        GeneralName::UniformResourceIdentifier(text) => {
-            let text = text.as_str().as_bytes();
-            is_absolute(text) && !is_uri(text)
+/// That a name is an absolute URI of other syntax than RFC 3986 has.
+pub(crate) struct NoUri;
+
+impl Test<GeneralName> for NoUri {
+    ghost use Rattle.x509_lint.specs.Alternative.{is_no_uri};
+
+    ghost holds_of = { λ test. is_no_uri };
+
+    fn holds_of(&self, name: &GeneralName) -> bool {
+        match name {
+            GeneralName::UniformResourceIdentifier(text) => {
+                let text = text.as_str().as_bytes();
+                is_absolute(text) && !is_uri(text)
+            }
+            _ => false,
         }
-        _ => false,
     }
 }
 
-/// Whether the name is an absolute URI whose authority has another host than a fully qualified name or an address.
-fn is_at_other_host(name: &GeneralName) -> bool
-    ensures { result ≡ is_at_other_host name.now }
-{
-    match name {
-        GeneralName::UniformResourceIdentifier(text) => {
-            let text = text.as_str().as_bytes();
-            is_absolute(text) && has_other_host(text)
+/// That a name is an absolute URI whose authority has another host than a fully qualified name or an address.
+pub(crate) struct AtOtherHost;
+
+impl Test<GeneralName> for AtOtherHost {
+    ghost use Rattle.x509_lint.specs.Alternative.{is_at_other_host};
+
+    ghost holds_of = { λ test. is_at_other_host };
+
+    fn holds_of(&self, name: &GeneralName) -> bool {
+        match name {
+            GeneralName::UniformResourceIdentifier(text) => {
+                let text = text.as_str().as_bytes();
+                is_absolute(text) && has_other_host(text)
+            }
+            _ => false,
         }
-        _ => false,
     }
 }
 
@@ -416,15 +472,21 @@ fn has_odd_text(name: &Name) -> bool
             || (has_faulty_text(TextFault::Size, name) || has_faulty_text(TextFault::Label, name)))
 }
 
-/// Whether the name is a directoryName that isn't encoded as an issuer has to be.
-fn is_odd_directory_name(name: &GeneralName) -> bool
-    ensures { result ≡ is_odd_directory_name name.now }
-{
-    match name {
-        GeneralName::DirectoryName(name) => {
-            has_empty_rdn(name) || (has_no_country(name) || has_odd_text(name))
+/// That a name is a directoryName that isn't encoded as an issuer has to be.
+pub(crate) struct OddDirectoryName;
+
+impl Test<GeneralName> for OddDirectoryName {
+    ghost use Rattle.x509_lint.specs.Alternative.{is_odd_directory_name};
+
+    ghost holds_of = { λ test. is_odd_directory_name };
+
+    fn holds_of(&self, name: &GeneralName) -> bool {
+        match name {
+            GeneralName::DirectoryName(name) => {
+                has_empty_rdn(name) || (has_no_country(name) || has_odd_text(name))
+            }
+            _ => false,
         }
-        _ => false,
     }
 }
 
@@ -447,20 +509,33 @@ fn is_srv_name(value: &Any) -> bool
     is_ia5_string(value.tag()) && (is_ia5(value.value()) && is_service_of_domain(value.value()))
 }
 
-/// Whether the name is in the place of a SRVName, and isn't one.
-fn is_no_srv_name(name: &GeneralName) -> bool
-    ensures { result ≡ is_no_srv_name name.now }
-{
-    match name {
-        GeneralName::OtherName(name) => name.type_id == SRV_NAME && !is_srv_name(&name.value),
-        _ => false,
+/// That a name is in the place of a SRVName, and isn't one.
+pub(crate) struct NoSrvName;
+
+impl Test<GeneralName> for NoSrvName {
+    ghost use Rattle.x509_lint.specs.Alternative.{is_no_srv_name};
+
+    ghost holds_of = { λ test. is_no_srv_name };
+
+    fn holds_of(&self, name: &GeneralName) -> bool {
+        match name {
+            GeneralName::OtherName(name) => name.type_id == SRV_NAME && !is_srv_name(&name.value),
+            _ => false,
+        }
     }
 }
 
-fn has_wide(octets: &[u8]) -> bool
-    ensures { result ≡ list_any (λ octet. nat_le 128 octet) octets.now }
-{
-    octets.iter().any(|octet| *octet >= 128)
+/// That an octet is one of a character above U+007F.
+struct Wide;
+
+impl Test<u8> for Wide {
+    ghost use Rattle.std.specs.Prelude.{nat_le};
+
+    ghost holds_of = { λ test octet. nat_le 128 octet };
+
+    fn holds_of(&self, octet: &u8) -> bool {
+        *octet >= 128
+    }
 }
 
 /// Whether the text is a local part with a character above U+007F, the sign @, and a domain without such.
@@ -470,7 +545,7 @@ fn is_wide_mailbox(text: &[u8]) -> bool
     if begins_with(b'"', text) {
         contains(b'@', text)
     } else {
-        has_wide(before(b'@', text)) && is_domain(behind(b'@', text))
+        any_of(&Wide, before(b'@', text)) && is_domain(behind(b'@', text))
     }
 }
 
@@ -480,74 +555,20 @@ fn is_smtp_mailbox(value: &Any) -> bool
     is_utf8_string(value.tag()) && (is_utf8(value.value()) && is_wide_mailbox(value.value()))
 }
 
-/// Whether the name is in the place of a SmtpUTF8Mailbox, and isn't one.
-fn is_no_smtp_mailbox(name: &GeneralName) -> bool
-    ensures { result ≡ is_no_smtp_mailbox name.now }
-{
-    match name {
-        GeneralName::OtherName(name) => {
-            name.type_id == SMTP_MAILBOX && !is_smtp_mailbox(&name.value)
+/// That a name is in the place of a SmtpUTF8Mailbox, and isn't one.
+pub(crate) struct NoSmtpMailbox;
+
+impl Test<GeneralName> for NoSmtpMailbox {
+    ghost use Rattle.x509_lint.specs.Alternative.{is_no_smtp_mailbox};
+
+    ghost holds_of = { λ test. is_no_smtp_mailbox };
+
+    fn holds_of(&self, name: &GeneralName) -> bool {
+        match name {
+            GeneralName::OtherName(name) => {
+                name.type_id == SMTP_MAILBOX && !is_smtp_mailbox(&name.value)
+            }
+            _ => false,
         }
-        _ => false,
     }
-}
-
-pub(crate) fn has_empty_name(names: &[GeneralName]) -> bool
-    ensures { result ≡ list_any is_empty_name names.now }
-{
-    names.iter().any(is_empty_general_name)
-}
-
-pub(crate) fn has_no_dns_name(names: &[GeneralName]) -> bool
-    ensures { result ≡ list_any is_no_dns_name names.now }
-{
-    names.iter().any(is_no_dns_name)
-}
-
-pub(crate) fn has_no_address(names: &[GeneralName]) -> bool
-    ensures { result ≡ list_any is_no_address names.now }
-{
-    names.iter().any(is_no_address)
-}
-
-pub(crate) fn has_no_mailbox(names: &[GeneralName]) -> bool
-    ensures { result ≡ list_any is_no_mailbox names.now }
-{
-    names.iter().any(is_no_mailbox)
-}
-
-pub(crate) fn has_relative_uri(names: &[GeneralName]) -> bool
-    ensures { result ≡ list_any is_relative names.now }
-{
-    names.iter().any(is_relative)
-}
-
-pub(crate) fn has_no_uri(names: &[GeneralName]) -> bool
-    ensures { result ≡ list_any is_no_uri names.now }
-{
-    names.iter().any(is_no_uri)
-}
-
-pub(crate) fn has_uri_at_other_host(names: &[GeneralName]) -> bool
-    ensures { result ≡ list_any is_at_other_host names.now }
-{
-    names.iter().any(is_at_other_host)
-}
-
-pub(crate) fn has_odd_directory_name(names: &[GeneralName]) -> bool
-    ensures { result ≡ list_any is_odd_directory_name names.now }
-{
-    names.iter().any(is_odd_directory_name)
-}
-
-pub(crate) fn has_no_srv_name(names: &[GeneralName]) -> bool
-    ensures { result ≡ list_any is_no_srv_name names.now }
-{
-    names.iter().any(is_no_srv_name)
-}
-
-pub(crate) fn has_no_smtp_mailbox(names: &[GeneralName]) -> bool
-    ensures { result ≡ list_any is_no_smtp_mailbox names.now }
-{
-    names.iter().any(is_no_smtp_mailbox)
 }

@@ -92,10 +92,16 @@ fn is_control(char: u32) -> bool
     char < 32 || (char >= 127 && char < 160)
 }
 
-fn are_controls(octets: &[u8]) -> bool
-    ensures { result ≡ list_any notices.is_control octets.now }
+fn are_controls(mut octets: &[u8]) -> bool
+    ensures { result ≡ list_any notices.is_control octets.entry.now }
 {
-    octets.iter().any(|octet| is_control(*octet as u32))
+    while let [first, rest @ ..] = octets {
+        if is_control(*first as u32) {
+            return true;
+        }
+        octets = rest;
+    }
+    false
 }
 
 fn are_control_chars(text: &str) -> bool

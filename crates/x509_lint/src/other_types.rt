@@ -42,10 +42,16 @@ fn is_null<T: AssociatedOid>(extension: &Extension) -> bool
 }
 
 /// Whether the octets of each extension of the type are NULL.
-pub(crate) fn are_null<T: AssociatedOid>(extensions: &[Extension]) -> bool
-    ensures { result ≡ grammar.are_null T.OID extensions.now }
+pub(crate) fn are_null<T: AssociatedOid>(mut extensions: &[Extension]) -> bool
+    ensures { result ≡ grammar.are_null T.OID extensions.entry.now }
 {
-    extensions.iter().all(|extension| is_null::<T>(extension))
+    while let [first, rest @ ..] = extensions {
+        if !is_null::<T>(first) {
+            return false;
+        }
+        extensions = rest;
+    }
+    true
 }
 
 /// The extensions of TLS that a server has to use (RFC 7633 4).

@@ -1,11 +1,12 @@
 //! What is asked of places where CRLs and certificates are found.
 
 ghost use Rattle.std.specs.List.{list_all, list_any};
-ghost use Rattle.std.specs.Prelude.{◌≡◌, ◌&&◌, bytes_eq, not};
+ghost use Rattle.std.specs.Prelude.{◌≡◌, bytes_eq, not};
 ghost use Rattle.x509_lint.specs.Place as place;
 ghost use Rattle.x509_lint.specs.Words.{passes};
 
 use crate::extensions::is_empty_sequence;
+use crate::lists::{Test, all_of, any_of};
 use crate::passes;
 use crate::uris::{has_attributes, has_dn, has_ldap_host, has_one_attribute, is_any_uri};
 use bitflags::Flags;
@@ -88,127 +89,120 @@ fn is_ldap(text: &[u8]) -> bool
                 && (is_letter_at(text, 3, b'P', b'p') && is_colon_at(text, 4))))
 }
 
-/// Whether the name is an HTTP or an LDAP URI.
-fn is_web(name: &GeneralName) -> bool
-    ensures { result ≡ place.is_web name.now }
-{
-    match name {
-        GeneralName::UniformResourceIdentifier(text) => {
-            let text = text.as_str().as_bytes();
-            is_http(text) || is_ldap(text)
+/// That a name is an HTTP or an LDAP URI.
+struct Web;
+
+impl Test<GeneralName> for Web {
+    ghost use Rattle.x509_lint.specs.Place.{is_web};
+
+    ghost holds_of = { λ test. is_web };
+
+    fn holds_of(&self, name: &GeneralName) -> bool {
+        match name {
+            GeneralName::UniformResourceIdentifier(text) => {
+                let text = text.as_str().as_bytes();
+                is_http(text) || is_ldap(text)
+            }
+            _ => false,
         }
-        _ => false,
     }
 }
 
-fn has_web(names: &[GeneralName]) -> bool
-    ensures { result ≡ list_any place.is_web names.now }
-{
-    names.iter().any(is_web)
-}
+/// That a name is an LDAP URI without a dn, or without one attribute description.
+struct IncompleteEntry;
 
-/// Whether the name is an LDAP URI without a dn, or without one attribute description.
-fn is_incomplete_entry(name: &GeneralName) -> bool
-    ensures { result ≡ place.is_incomplete_entry name.now }
-{
-    match name {
-        GeneralName::UniformResourceIdentifier(text) => {
-            let text = text.as_str().as_bytes();
-            is_ldap(text) && !(has_dn(text) && has_one_attribute(text))
+impl Test<GeneralName> for IncompleteEntry {
+    ghost use Rattle.x509_lint.specs.Place.{is_incomplete_entry};
+
+    ghost holds_of = { λ test. is_incomplete_entry };
+
+    fn holds_of(&self, name: &GeneralName) -> bool {
+        match name {
+            GeneralName::UniformResourceIdentifier(text) => {
+                let text = text.as_str().as_bytes();
+                is_ldap(text) && !(has_dn(text) && has_one_attribute(text))
+            }
+            _ => false,
         }
-        _ => false,
     }
 }
 
-/// Whether the name is an LDAP URI without a dn, or without attribute descriptions.
-fn is_incomplete_search(name: &GeneralName) -> bool
-    ensures { result ≡ place.is_incomplete_search name.now }
-{
-    match name {
-        GeneralName::UniformResourceIdentifier(text) => {
-            let text = text.as_str().as_bytes();
-            is_ldap(text) && !(has_dn(text) && has_attributes(text))
+/// That a name is an LDAP URI without a dn, or without attribute descriptions.
+struct IncompleteSearch;
+
+impl Test<GeneralName> for IncompleteSearch {
+    ghost use Rattle.x509_lint.specs.Place.{is_incomplete_search};
+
+    ghost holds_of = { λ test. is_incomplete_search };
+
+    fn holds_of(&self, name: &GeneralName) -> bool {
+        match name {
+            GeneralName::UniformResourceIdentifier(text) => {
+                let text = text.as_str().as_bytes();
+                is_ldap(text) && !(has_dn(text) && has_attributes(text))
+            }
+            _ => false,
         }
-        _ => false,
     }
 }
 
-/// Whether the name is an LDAP URI without a host.
-fn is_without_host(name: &GeneralName) -> bool
-    ensures { result ≡ place.is_without_host name.now }
-{
-    match name {
-        GeneralName::UniformResourceIdentifier(text) => {
-            let text = text.as_str().as_bytes();
-            is_ldap(text) && !has_ldap_host(text)
+/// That a name is an LDAP URI without a host.
+struct WithoutHost;
+
+impl Test<GeneralName> for WithoutHost {
+    ghost use Rattle.x509_lint.specs.Place.{is_without_host};
+
+    ghost holds_of = { λ test. is_without_host };
+
+    fn holds_of(&self, name: &GeneralName) -> bool {
+        match name {
+            GeneralName::UniformResourceIdentifier(text) => {
+                let text = text.as_str().as_bytes();
+                is_ldap(text) && !has_ldap_host(text)
+            }
+            _ => false,
         }
-        _ => false,
     }
 }
 
-/// Whether the name is in the place of a URI, and isn't one.
-fn is_other_uri(name: &GeneralName) -> bool
-    ensures { result ≡ place.is_other_uri name.now }
-{
-    match name {
-        GeneralName::UniformResourceIdentifier(text) => !is_any_uri(text.as_str().as_bytes()),
-        _ => false,
+/// That a name is in the place of a URI, and isn't one.
+struct OtherUri;
+
+impl Test<GeneralName> for OtherUri {
+    ghost use Rattle.x509_lint.specs.Place.{is_other_uri};
+
+    ghost holds_of = { λ test. is_other_uri };
+
+    fn holds_of(&self, name: &GeneralName) -> bool {
+        match name {
+            GeneralName::UniformResourceIdentifier(text) => !is_any_uri(text.as_str().as_bytes()),
+            _ => false,
+        }
     }
 }
 
-fn are_other_uris(names: &[GeneralName]) -> bool
-    ensures { result ≡ list_any place.is_other_uri names.now }
-{
-    names.iter().any(is_other_uri)
-}
+/// That a name is in the form of a URI.
+struct UriName;
 
-/// Whether the name is in the form of a URI.
-fn is_uri_name(name: &GeneralName) -> bool
-    ensures { result ≡ place.is_uri_name name.now }
-{
-    match name {
-        GeneralName::UniformResourceIdentifier(_) => true,
-        _ => false,
+impl Test<GeneralName> for UriName {
+    ghost use Rattle.x509_lint.specs.Place.{is_uri_name};
+
+    ghost holds_of = { λ test. is_uri_name };
+
+    fn holds_of(&self, name: &GeneralName) -> bool {
+        match name {
+            GeneralName::UniformResourceIdentifier(_) => true,
+            _ => false,
+        }
     }
 }
 
-fn have_incomplete_entry(names: &[GeneralName]) -> bool
-    ensures { result ≡ list_any place.is_incomplete_entry names.now }
-{
-    names.iter().any(is_incomplete_entry)
-}
-
-fn are_without_host(names: &[GeneralName]) -> bool
-    ensures { result ≡ list_any place.is_without_host names.now }
-{
-    names.iter().any(is_without_host)
-}
-
-fn has_incomplete_entry(name: &Option<DistributionPointName>) -> bool
-    ensures { result ≡ passes (λ n. place.has_name place.is_incomplete_entry n) name.now }
+/// Whether the name is there, and one of its general names passes.
+fn has_name<P: Test<GeneralName>>(test: &P, name: &Option<DistributionPointName>) -> bool
+    ensures { result ≡ passes (λ n. place.has_name (P.holds_of test.now) n) name.now }
 {
     match name {
-        Some(DistributionPointName::FullName(names)) => have_incomplete_entry(names.as_slice()),
-        Some(DistributionPointName::NameRelativeToCRLIssuer(_)) => false,
-        None => false,
-    }
-}
-
-fn has_entry_without_host(name: &Option<DistributionPointName>) -> bool
-    ensures { result ≡ passes (λ n. place.has_name place.is_without_host n) name.now }
-{
-    match name {
-        Some(DistributionPointName::FullName(names)) => are_without_host(names.as_slice()),
-        Some(DistributionPointName::NameRelativeToCRLIssuer(_)) => false,
-        None => false,
-    }
-}
-
-fn has_uri_that_is_none(name: &Option<DistributionPointName>) -> bool
-    ensures { result ≡ passes (λ n. place.has_name place.is_other_uri n) name.now }
-{
-    match name {
-        Some(DistributionPointName::FullName(names)) => are_other_uris(names.as_slice()),
+        Some(DistributionPointName::FullName(names)) => any_of(test, names.as_slice()),
         Some(DistributionPointName::NameRelativeToCRLIssuer(_)) => false,
         None => false,
     }
@@ -239,46 +233,51 @@ fn is_without_uri(name: &Option<DistributionPointName>) -> bool
     ensures { result ≡ passes place.is_name_without_uri name.now }
 {
     match name {
-        Some(DistributionPointName::FullName(names)) => !has_web(names.as_slice()),
+        Some(DistributionPointName::FullName(names)) => !any_of(&Web, names.as_slice()),
         Some(DistributionPointName::NameRelativeToCRLIssuer(_)) => false,
         None => false,
     }
 }
 
-fn is_no_directory_name(name: &GeneralName) -> bool
-    ensures { result ≡ place.is_no_directory_name name.now }
-{
-    match name {
-        GeneralName::DirectoryName(_) => false,
-        _ => true,
+/// That a name isn't a directoryName.
+struct NoDirectoryName;
+
+impl Test<GeneralName> for NoDirectoryName {
+    ghost use Rattle.x509_lint.specs.Place.{is_no_directory_name};
+
+    ghost holds_of = { λ test. is_no_directory_name };
+
+    fn holds_of(&self, name: &GeneralName) -> bool {
+        match name {
+            GeneralName::DirectoryName(_) => false,
+            _ => true,
+        }
     }
 }
 
-fn are_not_directory_names(names: &[GeneralName]) -> bool
-    ensures { result ≡ list_any place.is_no_directory_name names.now }
-{
-    names.iter().any(is_no_directory_name)
-}
+impl Test<DistributionPoint> for PointFault {
+    ghost use Rattle.x509_lint.specs.Place.{is_faulty_point};
 
-fn is_faulty(fault: PointFault, point: &DistributionPoint) -> bool
-    ensures { result ≡ place.is_faulty_point fault point.now }
-{
-    match fault {
-        PointFault::Relative => is_relative(&point.distribution_point),
-        PointFault::RelativeToSeveral => {
-            is_relative(&point.distribution_point)
-                && passes!(&point.crl_issuer, names => names.as_slice().len() > 1)
+    ghost holds_of = { is_faulty_point };
+
+    fn holds_of(&self, point: &DistributionPoint) -> bool {
+        match self {
+            PointFault::Relative => is_relative(&point.distribution_point),
+            PointFault::RelativeToSeveral => {
+                is_relative(&point.distribution_point)
+                    && passes!(&point.crl_issuer, names => names.as_slice().len() > 1)
+            }
+            PointFault::NoUri => is_without_uri(&point.distribution_point),
+            PointFault::OtherIssuer =>
+                passes!(&point.crl_issuer, names => any_of(&NoDirectoryName, names.as_slice())),
+            PointFault::ReasonsOrIssuer => point.reasons.is_some() || point.crl_issuer.is_some(),
+            PointFault::LdapIncomplete => has_name(&IncompleteEntry, &point.distribution_point),
+            PointFault::LdapWithoutHost => has_name(&WithoutHost, &point.distribution_point),
+            PointFault::NoNames => {
+                has_no_names(&point.distribution_point) || is_empty_sequence(&point.crl_issuer)
+            }
+            PointFault::UriInvalid => has_name(&OtherUri, &point.distribution_point),
         }
-        PointFault::NoUri => is_without_uri(&point.distribution_point),
-        PointFault::OtherIssuer =>
-            passes!(&point.crl_issuer, names => are_not_directory_names(names.as_slice())),
-        PointFault::ReasonsOrIssuer => point.reasons.is_some() || point.crl_issuer.is_some(),
-        PointFault::LdapIncomplete => has_incomplete_entry(&point.distribution_point),
-        PointFault::LdapWithoutHost => has_entry_without_host(&point.distribution_point),
-        PointFault::NoNames => {
-            has_no_names(&point.distribution_point) || is_empty_sequence(&point.crl_issuer)
-        }
-        PointFault::UriInvalid => has_uri_that_is_none(&point.distribution_point),
     }
 }
 
@@ -286,90 +285,101 @@ fn is_faulty(fault: PointFault, point: &DistributionPoint) -> bool
 pub(crate) fn has_fault(fault: PointFault, points: &[DistributionPoint]) -> bool
     ensures { result ≡ list_any (place.is_faulty_point fault) points.now }
 {
-    points.iter().any(|point| is_faulty(fault, point))
+    any_of(&fault, points)
 }
 
-/// Whether the point has reasons, and some reason isn't among them.
-fn is_partial(point: &DistributionPoint) -> bool
-    ensures { result ≡ place.is_partial_point point.now }
-{
-    passes!(&point.reasons, reasons => reasons.bits() & ALL_REASONS != ALL_REASONS)
+/// That a point has reasons, and some reason isn't among them.
+struct Partial;
+
+impl Test<DistributionPoint> for Partial {
+    ghost use Rattle.x509_lint.specs.Place.{is_partial_point};
+
+    ghost holds_of = { λ test. is_partial_point };
+
+    fn holds_of(&self, point: &DistributionPoint) -> bool {
+        passes!(&point.reasons, reasons => reasons.bits() & ALL_REASONS != ALL_REASONS)
+    }
 }
 
 /// Whether there are points, and none is one of a CRL that covers all reasons.
 pub(crate) fn are_partial(points: &[DistributionPoint]) -> bool
     ensures { result ≡ place.are_partial points.now }
 {
-    !points.is_empty() && are_all_partial(points)
+    !points.is_empty() && all_of(&Partial, points)
 }
 
-fn are_all_partial(points: &[DistributionPoint]) -> bool
-    ensures { result ≡ list_all place.is_partial_point points.now }
-{
-    points.iter().all(is_partial)
-}
+/// That a general name is this name.
+#[derive(Clone, Copy)]
+struct ThisName<'a>(&'a Name);
 
-fn is_this_name(name: &Name, other: &GeneralName) -> bool
-    ensures { result ≡ place.is_this_name name.now other.now }
-{
-    match other {
-        GeneralName::DirectoryName(other) => other == name,
-        _ => false,
+impl Test<GeneralName> for ThisName<'_> {
+    ghost use Rattle.x509_lint.specs.Place.{is_this_name};
+
+    ghost holds_of = { λ test. is_this_name test.0.now };
+
+    fn holds_of(&self, other: &GeneralName) -> bool {
+        match other {
+            GeneralName::DirectoryName(other) => other == self.0,
+            _ => false,
+        }
     }
 }
 
-fn are_this_name(name: &Name, names: &[GeneralName]) -> bool
-    ensures { result ≡ list_any (place.is_this_name name.now) names.now }
-{
-    names.iter().any(|other| is_this_name(name, other))
-}
+/// That the cRLIssuer of a point has this name.
+#[derive(Clone, Copy)]
+struct PointOf<'a>(&'a Name);
 
-fn is_point_of(name: &Name, point: &DistributionPoint) -> bool
-    ensures { result ≡ place.is_point_of name.now point.now }
-{
-    passes!(&point.crl_issuer, names => are_this_name(name, names.as_slice()))
+impl Test<DistributionPoint> for PointOf<'_> {
+    ghost use Rattle.x509_lint.specs.Place.{is_point_of};
+
+    ghost holds_of = { λ test. is_point_of test.0.now };
+
+    fn holds_of(&self, point: &DistributionPoint) -> bool {
+        passes!(&point.crl_issuer, names => any_of(&ThisName(self.0), names.as_slice()))
+    }
 }
 
 /// Whether the cRLIssuer of a point has the name.
 pub(crate) fn has_point_of(name: &Name, points: &[DistributionPoint]) -> bool
     ensures { result ≡ list_any (place.is_point_of name.now) points.now }
 {
-    points.iter().any(|point| is_point_of(name, point))
+    any_of(&PointOf(name), points)
 }
 
-fn is_web_of(method: ObjectIdentifier, description: &AccessDescription) -> bool
-    ensures { result ≡ (bytes_eq description.now.access_method method && place.is_web description.now.access_location) }
+fn has_method(method: ObjectIdentifier, mut descriptions: &[AccessDescription]) -> bool
+    ensures { result ≡ place.has_method method descriptions.entry.now }
 {
-    description.access_method == method && is_web(&description.access_location)
+    while let [first, rest @ ..] = descriptions {
+        if first.access_method == method {
+            return true;
+        }
+        descriptions = rest;
+    }
+    false
 }
 
-fn has_method(method: ObjectIdentifier, descriptions: &[AccessDescription]) -> bool
-    ensures { result ≡ place.has_method method descriptions.now }
+/// Whether the place of a description of the method passes.
+fn has_place<P: Test<GeneralName>>(
+    test: &P,
+    method: ObjectIdentifier,
+    mut descriptions: &[AccessDescription],
+) -> bool
+    ensures { result ≡ place.has_place (P.holds_of test.now) method descriptions.entry.now }
 {
-    descriptions
-        .iter()
-        .any(|description| description.access_method == method)
-}
-
-fn has_web_of(method: ObjectIdentifier, descriptions: &[AccessDescription]) -> bool
-    ensures { result ≡ list_any (λ d. bytes_eq d.access_method method && place.is_web d.access_location) descriptions.now }
-{
-    descriptions
-        .iter()
-        .any(|description| is_web_of(method, description))
+    while let [first, rest @ ..] = descriptions {
+        if first.access_method == method && test.holds_of(&first.access_location) {
+            return true;
+        }
+        descriptions = rest;
+    }
+    false
 }
 
 /// Whether there are descriptions of the method, and none has an HTTP or LDAP URI.
 pub(crate) fn lacks_uri(method: ObjectIdentifier, descriptions: &[AccessDescription]) -> bool
     ensures { result ≡ place.lacks_uri method descriptions.now }
 {
-    has_method(method, descriptions) && !has_web_of(method, descriptions)
-}
-
-fn is_incomplete_search_of(method: ObjectIdentifier, description: &AccessDescription) -> bool
-    ensures { result ≡ (bytes_eq description.now.access_method method && place.is_incomplete_search description.now.access_location) }
-{
-    description.access_method == method && is_incomplete_search(&description.access_location)
+    has_method(method, descriptions) && !has_place(&Web, method, descriptions)
 }
 
 /// Whether a description of the method has an LDAP URI without a dn, or without attribute descriptions.
@@ -379,15 +389,7 @@ pub(crate) fn has_incomplete_search(
 ) -> bool
     ensures { result ≡ place.has_place place.is_incomplete_search method descriptions.now }
 {
-    descriptions
-        .iter()
-        .any(|description| is_incomplete_search_of(method, description))
-}
-
-fn is_without_host_of(method: ObjectIdentifier, description: &AccessDescription) -> bool
-    ensures { result ≡ (bytes_eq description.now.access_method method && place.is_without_host description.now.access_location) }
-{
-    description.access_method == method && is_without_host(&description.access_location)
+    has_place(&IncompleteSearch, method, descriptions)
 }
 
 /// Whether a description of the method has an LDAP URI without a host.
@@ -397,47 +399,46 @@ pub(crate) fn has_place_without_host(
 ) -> bool
     ensures { result ≡ place.has_place place.is_without_host method descriptions.now }
 {
-    descriptions
-        .iter()
-        .any(|description| is_without_host_of(method, description))
-}
-
-fn is_uri_of(method: ObjectIdentifier, description: &AccessDescription) -> bool
-    ensures { result ≡ (bytes_eq description.now.access_method method && place.is_uri_name description.now.access_location) }
-{
-    description.access_method == method && is_uri_name(&description.access_location)
-}
-
-fn has_uri_of(method: ObjectIdentifier, descriptions: &[AccessDescription]) -> bool
-    ensures { result ≡ place.has_place place.is_uri_name method descriptions.now }
-{
-    descriptions
-        .iter()
-        .any(|description| is_uri_of(method, description))
+    has_place(&WithoutHost, method, descriptions)
 }
 
 /// Whether there are descriptions of the method, and none has a URI.
 pub(crate) fn lacks_any_uri(method: ObjectIdentifier, descriptions: &[AccessDescription]) -> bool
     ensures { result ≡ place.lacks_any_uri method descriptions.now }
 {
-    has_method(method, descriptions) && !has_uri_of(method, descriptions)
+    has_method(method, descriptions) && !has_place(&UriName, method, descriptions)
+}
+
+/// That a description has something in the place of a URI that isn't one.
+struct OtherLocation;
+
+impl Test<AccessDescription> for OtherLocation {
+    ghost use Rattle.x509_lint.specs.Place.{is_other_uri};
+
+    ghost holds_of = { λ test description. is_other_uri description.access_location };
+
+    fn holds_of(&self, description: &AccessDescription) -> bool {
+        OtherUri.holds_of(&description.access_location)
+    }
 }
 
 /// Whether a description has something in the place of a URI that isn't one.
 pub(crate) fn has_other_uri(descriptions: &[AccessDescription]) -> bool
     ensures { result ≡ list_any (λ d. place.is_other_uri d.access_location) descriptions.now }
 {
-    descriptions
-        .iter()
-        .any(|description| is_other_uri(&description.access_location))
+    any_of(&OtherLocation, descriptions)
 }
 
-fn is_other_among(method: ObjectIdentifier, descriptions: &[AccessDescription]) -> bool
-    ensures { result ≡ list_any (λ d. not (bytes_eq d.access_method method)) descriptions.now }
+fn is_other_among(method: ObjectIdentifier, mut descriptions: &[AccessDescription]) -> bool
+    ensures { result ≡ list_any (λ d. not (bytes_eq d.access_method method)) descriptions.entry.now }
 {
-    descriptions
-        .iter()
-        .any(|description| description.access_method != method)
+    while let [first, rest @ ..] = descriptions {
+        if first.access_method != method {
+            return true;
+        }
+        descriptions = rest;
+    }
+    false
 }
 
 /// Whether there is no description, or one of another method.

@@ -11,6 +11,7 @@ use crate::anchor::lint_anchor;
 use crate::certificate::lint_certificate;
 use crate::crl::lint_crl;
 use crate::entry::{Entry, Severity};
+use crate::lists::{Test, any_of};
 use crate::request::lint_request;
 use crate::rule::Rule;
 use crate::seen::{anchor_seen, certificate_seen, crl_seen, request_seen};
@@ -184,12 +185,19 @@ impl Linted for TrustAnchorChoice<Raw> {
     }
 }
 
-fn is_error(rule: &Rule) -> bool
-    ensures { result ≡ grammar.is_error rule.now }
-{
-    match rule.severity() {
-        Severity::Error => true,
-        Severity::Warning | Severity::NotJudged => false,
+/// That a rule has to be kept.
+struct IsError;
+
+impl Test<Rule> for IsError {
+    ghost use Rattle.x509_lint.specs.Report.{is_error};
+
+    ghost holds_of = { λ test. is_error };
+
+    fn holds_of(&self, rule: &Rule) -> bool {
+        match rule.severity() {
+            Severity::Error => true,
+            Severity::Warning | Severity::NotJudged => false,
+        }
     }
 }
 
@@ -277,12 +285,6 @@ fn lines<T: Linted>(
     Ok(text)
 }
 
-fn has_error(findings: &[Rule]) -> bool
-    ensures { result ≡ list_any grammar.is_error findings.now }
-{
-    findings.iter().any(is_error)
-}
-
 /// What is said of an object.
 fn report_of<T: Linted>(alloc: Global, style: Style<'_>, object: &T) -> Result<Report, Error>
     ensures ok { IfOk result (λ report. grammar.IsReportOf T.word (T.are_findings object.now) (T.seen object.now) (grammar.front_of style.entry) report) }
@@ -291,7 +293,7 @@ fn report_of<T: Linted>(alloc: Global, style: Style<'_>, object: &T) -> Result<R
     let findings = object.findings(alloc)?;
     Ok(Report {
         text: lines(alloc, style, object, findings.as_slice())?,
-        has_error: has_error(findings.as_slice()),
+        has_error: any_of(&IsError, findings.as_slice()),
     })
 }
 

@@ -1,17 +1,18 @@
 //! What is asked of the texts of names.
 
 ghost use Rattle.std.specs.List.{list_all, list_any};
-ghost use Rattle.std.specs.Prelude.{◌≡◌, ◌&&◌, ◌||◌, ◌==◌, IfNone, IfSome, bytes_eq, false, nat_le, nat_lt, true};
+ghost use Rattle.std.specs.Prelude.{◌≡◌, IfNone, IfSome, bytes_eq, false, nat_lt, true};
 ghost use Rattle.std.specs.Str.{is_utf8};
 ghost use Rattle.x509_lint.specs.Text as text;
 
+use crate::lists::{Test, all_of, any_of};
 use crate::notices::count_chars;
 use crate::passes;
 use x509_der::Tag;
 use x509_host::are_ldh_labels;
 use x509_name::attr::AttributeTypeAndValue;
 use x509_name::attr::attribute_types::{DOMAIN_COMPONENT, EMAIL_ADDRESS};
-use x509_name::name::{Name, RdnSequence, RelativeDistinguishedName};
+use x509_name::name::{Name, RdnSequence};
 
 /// What may be wrong with the text of an attribute (RFC 5280 4.1.2.4, A.1).
 #[derive(Clone, Copy)]
@@ -52,10 +53,16 @@ fn is_id_at(oid: &[u8], number: u8) -> bool
 }
 
 /// Whether the type is 2.5.4.N, with one of the numbers as N.
-fn is_among(numbers: &[u8], oid: &[u8]) -> bool
-    ensures { result ≡ text.is_among numbers.now oid.now }
+fn is_among(mut numbers: &[u8], oid: &[u8]) -> bool
+    ensures { result ≡ text.is_among numbers.entry.now oid.now }
 {
-    numbers.iter().any(|number| is_id_at(oid, *number))
+    while let [first, rest @ ..] = numbers {
+        if is_id_at(oid, *first) {
+            return true;
+        }
+        numbers = rest;
+    }
+    false
 }
 
 fn is_ia5_type(attribute: &AttributeTypeAndValue) -> bool
@@ -131,44 +138,71 @@ pub(crate) fn is_digit(octet: u8) -> bool
     octet >= b'0' && octet <= b'9'
 }
 
-fn is_mark(octet: u8) -> bool
-    ensures { result ≡ list_any (λ mark. mark == octet) text.marks }
-{
-    MARKS.iter().any(|mark| *mark == octet)
-}
+/// That an octet is a character of a PrintableString.
+struct PrintableOctet;
 
-fn is_printable_octet(octet: u8) -> bool
-    ensures { result ≡ text.is_printable_octet octet }
-{
-    (octet >= b'A' && octet <= b'Z')
-        || ((octet >= b'a' && octet <= b'z') || (is_digit(octet) || is_mark(octet)))
+impl Test<u8> for PrintableOctet {
+    ghost use Rattle.x509_lint.specs.Text.{is_printable_octet};
+
+    ghost holds_of = { λ test. is_printable_octet };
+
+    fn holds_of(&self, octet: &u8) -> bool {
+        (*octet >= b'A' && *octet <= b'Z')
+            || ((*octet >= b'a' && *octet <= b'z') || (is_digit(*octet) || MARKS.contains(octet)))
+    }
 }
 
 /// Whether each octet is a character of a PrintableString.
 pub(crate) fn is_printable(octets: &[u8]) -> bool
     ensures { result ≡ list_all text.is_printable_octet octets.now }
 {
-    octets.iter().all(|octet| is_printable_octet(*octet))
+    all_of(&PrintableOctet, octets)
+}
+
+/// That an octet is a character of an IA5String.
+struct Ia5Octet;
+
+impl Test<u8> for Ia5Octet {
+    ghost use Rattle.std.specs.Prelude.{nat_lt};
+
+    ghost holds_of = { λ test octet. nat_lt octet 128 };
+
+    fn holds_of(&self, octet: &u8) -> bool {
+        *octet < 128
+    }
 }
 
 pub(crate) fn is_ia5(octets: &[u8]) -> bool
     ensures { result ≡ list_all (λ octet. nat_lt octet 128) octets.now }
 {
-    octets.iter().all(|octet| *octet < 128)
+    all_of(&Ia5Octet, octets)
 }
 
-fn is_visible(octets: &[u8]) -> bool
-    ensures { result ≡ list_all (λ octet. nat_le 32 octet && nat_lt octet 127) octets.now }
-{
-    octets.iter().all(|octet| *octet >= 32 && *octet < 127)
+/// That an octet is a character of a VisibleString.
+struct VisibleOctet;
+
+impl Test<u8> for VisibleOctet {
+    ghost use Rattle.std.specs.Prelude.{◌&&◌, nat_le, nat_lt};
+
+    ghost holds_of = { λ test octet. nat_le 32 octet && nat_lt octet 127 };
+
+    fn holds_of(&self, octet: &u8) -> bool {
+        *octet >= 32 && *octet < 127
+    }
 }
 
-fn is_numeric(octets: &[u8]) -> bool
-    ensures { result ≡ list_all (λ octet. (octet == 32) || text.is_digit octet) octets.now }
-{
-    octets
-        .iter()
-        .all(|octet| *octet == b' ' || is_digit(*octet))
+/// That an octet is a character of a NumericString.
+struct NumericOctet;
+
+impl Test<u8> for NumericOctet {
+    ghost use Rattle.std.specs.Prelude.{◌||◌, ◌==◌};
+    ghost use Rattle.x509_lint.specs.Text.{is_digit};
+
+    ghost holds_of = { λ test octet. (octet == 32) || is_digit octet };
+
+    fn holds_of(&self, octet: &u8) -> bool {
+        *octet == b' ' || is_digit(*octet)
+    }
 }
 
 /// The octets as a text, where they are UTF-8.
@@ -196,8 +230,8 @@ fn is_text(tag: Tag, octets: &[u8]) -> bool
         Tag::Utf8String => is_utf8(octets),
         Tag::PrintableString => is_printable(octets),
         Tag::Ia5String => is_ia5(octets),
-        Tag::VisibleString => is_visible(octets),
-        Tag::NumericString => is_numeric(octets),
+        Tag::VisibleString => all_of(&VisibleOctet, octets),
+        Tag::NumericString => all_of(&NumericOctet, octets),
         Tag::BmpString => octets.len() % 2 == 0,
         Tag::UniversalString => octets.len() % 4 == 0,
         _ => true,
@@ -240,26 +274,28 @@ fn has_odd_size(attribute: &AttributeTypeAndValue) -> bool
     (is_among(&NUMBERS_TO_64, oid) && is_outside(64, count))
         || ((is_among(&NUMBERS_TO_128, oid) && is_outside(128, count))
             || ((is_among(&NUMBERS_TO_32768, oid) && is_outside(32768, count))
-                || (is_email(attribute) && is_outside(255, count))))
+                || (Email.holds_of(attribute) && is_outside(255, count))))
 }
 
-fn is_email(attribute: &AttributeTypeAndValue) -> bool
-    ensures { result ≡ bytes_eq attribute.now.oid text.email_address }
-{
-    attribute.oid == EMAIL_ADDRESS
-}
+/// That an attribute is an emailAddress.
+struct Email;
 
-fn has_dot(octets: &[u8]) -> bool
-    ensures { result ≡ list_any (λ octet. octet == 46) octets.now }
-{
-    octets.iter().any(|octet| *octet == b'.')
+impl Test<AttributeTypeAndValue> for Email {
+    ghost use Rattle.std.specs.Prelude.{bytes_eq};
+    ghost use Rattle.x509_lint.specs.Text.{email_address};
+
+    ghost holds_of = { λ test attribute. bytes_eq attribute.oid email_address };
+
+    fn holds_of(&self, attribute: &AttributeTypeAndValue) -> bool {
+        attribute.oid == EMAIL_ADDRESS
+    }
 }
 
 /// Whether the octets are one label of a domain name.
 fn is_label(octets: &[u8]) -> bool
     ensures { result ≡ text.is_label octets.now }
 {
-    are_ldh_labels(octets) && !has_dot(octets)
+    are_ldh_labels(octets) && !octets.contains(&b'.')
 }
 
 /// Whether the attribute is a domainComponent that isn't one label.
@@ -269,46 +305,47 @@ fn has_no_label(attribute: &AttributeTypeAndValue) -> bool
     attribute.oid == DOMAIN_COMPONENT && !is_label(attribute.value.value())
 }
 
-fn is_faulty_text(fault: TextFault, attribute: &AttributeTypeAndValue) -> bool
-    ensures { result ≡ text.is_faulty_text fault attribute.now }
-{
-    match fault {
-        TextFault::OtherType => has_other_type(attribute),
-        TextFault::OldType => has_old_type(attribute),
-        TextFault::OtherCharacter => !is_text(attribute.value.tag(), attribute.value.value()),
-        TextFault::Size => has_odd_size(attribute),
-        TextFault::Label => has_no_label(attribute),
+impl Test<AttributeTypeAndValue> for TextFault {
+    ghost use Rattle.x509_lint.specs.Text.{is_faulty_text};
+
+    ghost holds_of = { is_faulty_text };
+
+    fn holds_of(&self, attribute: &AttributeTypeAndValue) -> bool {
+        match self {
+            TextFault::OtherType => has_other_type(attribute),
+            TextFault::OldType => has_old_type(attribute),
+            TextFault::OtherCharacter => !is_text(attribute.value.tag(), attribute.value.value()),
+            TextFault::Size => has_odd_size(attribute),
+            TextFault::Label => has_no_label(attribute),
+        }
     }
 }
 
-fn has_faulty_text_in(fault: TextFault, rdn: &RelativeDistinguishedName) -> bool
-    ensures { result ≡ list_any (text.is_faulty_text fault) rdn.now }
+/// Whether an attribute of the name passes.
+pub(crate) fn has_attribute<P: Test<AttributeTypeAndValue>>(test: &P, name: &Name) -> bool
+    ensures { result ≡ list_any (λ rdn. list_any (P.holds_of test.now) rdn) name.now }
 {
-    rdn.as_slice()
-        .iter()
-        .any(|attribute| is_faulty_text(fault, attribute))
+    let rdns: &RdnSequence = name.as_ref();
+    let mut rdns = rdns.as_slice();
+    while let [first, rest @ ..] = rdns {
+        if any_of(test, first.as_slice()) {
+            return true;
+        }
+        rdns = rest;
+    }
+    false
 }
 
 /// Whether the text of an attribute of the name has the fault.
 pub(crate) fn has_faulty_text(fault: TextFault, name: &Name) -> bool
     ensures { result ≡ text.has_faulty_text fault name.now }
 {
-    let rdns: &RdnSequence = name.as_ref();
-    rdns.as_slice()
-        .iter()
-        .any(|rdn| has_faulty_text_in(fault, rdn))
-}
-
-fn has_email_in(rdn: &RelativeDistinguishedName) -> bool
-    ensures { result ≡ list_any (λ a. bytes_eq a.oid text.email_address) rdn.now }
-{
-    rdn.as_slice().iter().any(is_email)
+    has_attribute(&fault, name)
 }
 
 /// Whether an attribute of the name is an emailAddress.
 pub(crate) fn has_email(name: &Name) -> bool
     ensures { result ≡ text.has_email name.now }
 {
-    let rdns: &RdnSequence = name.as_ref();
-    rdns.as_slice().iter().any(has_email_in)
+    has_attribute(&Email, name)
 }

@@ -6,13 +6,21 @@ ghost use Rattle.std.specs.Prelude.{◌≡◌, ◌&&◌, ◌==◌, ◌||◌, ◌
 ghost use Rattle.x509_lint.specs.Uri as grammar;
 ghost use Rattle.x509_lint.specs.Words.{is_empty, passes};
 
+use crate::lists::{Test, all_of};
 use crate::passes;
 use x509_host::{are_ldh_labels, without_root};
 
-fn is_scheme_octet(octet: u8) -> bool
-    ensures { result ≡ grammar.is_scheme_octet octet }
-{
-    octet.is_ascii_alphanumeric() || (octet == b'+' || (octet == b'-' || octet == b'.'))
+/// That an octet may stand in a scheme.
+struct SchemeOctet;
+
+impl Test<u8> for SchemeOctet {
+    ghost use Rattle.x509_lint.specs.Uri.{is_scheme_octet};
+
+    ghost holds_of = { λ test. is_scheme_octet };
+
+    fn holds_of(&self, octet: &u8) -> bool {
+        octet.is_ascii_alphanumeric() || (*octet == b'+' || (*octet == b'-' || *octet == b'.'))
+    }
 }
 
 /// Whether the octets are ones of a scheme, a colon, and something behind it.
@@ -23,7 +31,7 @@ fn is_absolute_behind(mut text: &[u8]) -> bool
         if *first == b':' {
             return !rest.is_empty();
         }
-        if !is_scheme_octet(*first) {
+        if !SchemeOctet.holds_of(first) {
             return false;
         }
         text = rest;
@@ -41,49 +49,39 @@ pub(crate) fn is_absolute(text: &[u8]) -> bool
     }
 }
 
-fn is_hex_digit(octet: u8) -> bool
-    ensures { result ≡ grammar.is_hex_digit octet }
-{
-    octet.is_ascii_digit() || ((octet >= b'A' && octet <= b'F') || (octet >= b'a' && octet <= b'f'))
-}
+/// That an octet is a hex digit.
+struct HexDigit;
 
-fn are_hex_digits(text: &[u8]) -> bool
-    ensures { result ≡ list_all grammar.is_hex_digit text.now }
-{
-    text.iter().all(|octet| is_hex_digit(*octet))
+impl Test<u8> for HexDigit {
+    ghost use Rattle.x509_lint.specs.Uri.{is_hex_digit};
+
+    ghost holds_of = { λ test. is_hex_digit };
+
+    fn holds_of(&self, octet: &u8) -> bool {
+        octet.is_ascii_digit()
+            || ((*octet >= b'A' && *octet <= b'F') || (*octet >= b'a' && *octet <= b'f'))
+    }
 }
 
 fn are_digits(text: &[u8]) -> bool
     ensures { result ≡ list_all is_ascii_digit text.now }
 {
-    text.iter().all(|octet| octet.is_ascii_digit())
+    text.iter().all(u8::is_ascii_digit)
 }
 
 const PLAIN_MARKS: [u8; 15] = *b"-._~!$&'()*+,;=";
-
-fn is_plain_mark(octet: u8) -> bool
-    ensures { result ≡ list_any (λ mark. mark == octet) grammar.plain_marks }
-{
-    PLAIN_MARKS.iter().any(|mark| *mark == octet)
-}
 
 /// Whether the octet is unreserved, or one of sub-delims.
 fn is_plain(octet: u8) -> bool
     ensures { result ≡ grammar.is_plain octet }
 {
-    octet.is_ascii_alphanumeric() || is_plain_mark(octet)
-}
-
-fn is_one_of(marks: &[u8], octet: u8) -> bool
-    ensures { result ≡ list_any (λ mark. mark == octet) marks.now }
-{
-    marks.iter().any(|mark| *mark == octet)
+    octet.is_ascii_alphanumeric() || PLAIN_MARKS.contains(&octet)
 }
 
 fn is_hex_digit_at(text: &[u8], at: usize) -> bool
     ensures { result ≡ passes grammar.is_hex_digit (slice_get text.now at) }
 {
-    passes!(text.get(at), octet => is_hex_digit(*octet))
+    passes!(text.get(at), octet => HexDigit.holds_of(octet))
 }
 
 fn begins_with_hex(text: &[u8]) -> bool
@@ -101,7 +99,7 @@ fn is_spelled(marks: &[u8], mut text: &[u8]) -> bool
             if !begins_with_hex(rest) {
                 return false;
             }
-        } else if !is_plain(*first) && !is_one_of(marks, *first) {
+        } else if !is_plain(*first) && !marks.contains(first) {
             return false;
         }
         text = rest;
@@ -112,7 +110,7 @@ fn is_spelled(marks: &[u8], mut text: &[u8]) -> bool
 pub(crate) fn contains(mark: u8, text: &[u8]) -> bool
     ensures { result ≡ grammar.contains mark text.now }
 {
-    text.iter().any(|octet| *octet == mark)
+    text.contains(&mark)
 }
 
 /// The place of the first such mark, or the length.
@@ -207,11 +205,22 @@ fn is_decimal_octet(text: &[u8]) -> bool
     }
 }
 
+fn is_dot(octet: &u8) -> bool
+    ensures { result ≡ (octet.now == 46) }
+{
+    *octet == b'.'
+}
+
+fn is_colon(octet: &u8) -> bool
+    ensures { result ≡ (octet.now == 58) }
+{
+    *octet == b':'
+}
+
 fn are_decimal_octets(text: &[u8]) -> bool
     ensures { result ≡ list_all grammar.is_decimal_octet (slice_split (λ octet. octet == 46) text.now) }
 {
-    text.split(|octet| *octet == b'.')
-        .all(|part| is_decimal_octet(part))
+    text.split(is_dot).all(is_decimal_octet)
 }
 
 /// How many parts there are between such marks.
@@ -233,14 +242,13 @@ fn is_ipv4(text: &[u8]) -> bool
 fn is_piece(text: &[u8]) -> bool
     ensures { result ≡ grammar.is_piece text.now }
 {
-    (!text.is_empty() && (text.len() <= 4 && are_hex_digits(text))) || is_ipv4(text)
+    (!text.is_empty() && (text.len() <= 4 && all_of(&HexDigit, text))) || is_ipv4(text)
 }
 
 fn are_all_pieces(text: &[u8]) -> bool
     ensures { result ≡ list_all grammar.is_piece (slice_split (λ octet. octet == 58) text.now) }
 {
-    text.split(|octet| *octet == b':')
-        .all(|piece| is_piece(piece))
+    text.split(is_colon).all(is_piece)
 }
 
 fn are_pieces(text: &[u8]) -> bool
@@ -325,10 +333,18 @@ fn is_ipv6(text: &[u8]) -> bool
     }
 }
 
-fn are_future_octets(text: &[u8]) -> bool
-    ensures { result ≡ list_all (λ octet. grammar.is_plain octet || (octet == 58)) text.now }
-{
-    text.iter().all(|octet| is_plain(*octet) || *octet == b':')
+/// That an octet may stand in an address of a later version.
+struct FutureOctet;
+
+impl Test<u8> for FutureOctet {
+    ghost use Rattle.std.specs.Prelude.{◌||◌, ◌==◌};
+    ghost use Rattle.x509_lint.specs.Uri.{is_plain};
+
+    ghost holds_of = { λ test octet. is_plain octet || (octet == 58) };
+
+    fn holds_of(&self, octet: &u8) -> bool {
+        is_plain(*octet) || *octet == b':'
+    }
 }
 
 /// Whether the text is what stands behind the v of an address of a later version.
@@ -337,8 +353,8 @@ fn is_future_behind(text: &[u8]) -> bool
 {
     let version = before(b'.', text);
     let address = behind(b'.', text);
-    are_hex_digits(version)
-        && (!version.is_empty() && (!address.is_empty() && are_future_octets(address)))
+    all_of(&HexDigit, version)
+        && (!version.is_empty() && (!address.is_empty() && all_of(&FutureOctet, address)))
 }
 
 fn is_future(text: &[u8]) -> bool
@@ -431,17 +447,11 @@ pub(crate) fn is_uri(text: &[u8]) -> bool
     is_absolute(text) && are_parts(text)
 }
 
-fn are_scheme_octets(text: &[u8]) -> bool
-    ensures { result ≡ list_all grammar.is_scheme_octet text.now }
-{
-    text.iter().all(|octet| is_scheme_octet(*octet))
-}
-
 fn is_scheme(text: &[u8]) -> bool
     ensures { result ≡ grammar.is_scheme text.now }
 {
     match text {
-        [first, rest @ ..] => first.is_ascii_alphabetic() && are_scheme_octets(rest),
+        [first, rest @ ..] => first.is_ascii_alphabetic() && all_of(&SchemeOctet, rest),
         [] => false,
     }
 }
@@ -456,7 +466,7 @@ pub(crate) fn is_any_uri(text: &[u8]) -> bool
 fn has_letter(text: &[u8]) -> bool
     ensures { result ≡ list_any is_ascii_alphabetic text.now }
 {
-    text.iter().any(|octet| octet.is_ascii_alphabetic())
+    text.iter().any(u8::is_ascii_alphabetic)
 }
 
 /// Whether the text is a fully qualified name.
@@ -505,11 +515,22 @@ fn attributes_of(uri: &[u8]) -> &[u8]
     before(b'?', query_of(uri))
 }
 
+fn is_comma(octet: &u8) -> bool
+    ensures { result ≡ (octet.now == 44) }
+{
+    *octet == b','
+}
+
+fn is_filled(text: &[u8]) -> bool
+    ensures { result ≡ not (is_empty text.now) }
+{
+    !text.is_empty()
+}
+
 fn are_descriptions(text: &[u8]) -> bool
     ensures { result ≡ list_all (λ description. not (is_empty description)) (slice_split (λ octet. octet == 44) text.now) }
 {
-    text.split(|octet| *octet == b',')
-        .all(|description| !description.is_empty())
+    text.split(is_comma).all(is_filled)
 }
 
 /// Whether the LDAP URI has attribute descriptions.

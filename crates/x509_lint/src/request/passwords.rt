@@ -5,6 +5,7 @@ ghost use Rattle.std.specs.Prelude.{◌≡◌, ◌&&◌, bytes_eq};
 ghost use Rattle.x509_cert.specs.Identifiers.{pkcs_9};
 ghost use Rattle.x509_lint.specs.Request as grammar;
 
+use crate::lists::{Test, any_of};
 use crate::texts::{
     char_count, is_new_string, is_old_string, is_outside, is_printable, is_utf8_string,
 };
@@ -38,33 +39,34 @@ fn has_other_type(value: &Any) -> bool
     is_old_string(value.tag()) || (is_utf8_string(value.tag()) && is_printable(value.value()))
 }
 
-fn is_faulty_password(fault: PasswordFault, value: &Any) -> bool
-    ensures { result ≡ grammar.is_faulty_password fault value.now }
-{
-    match fault {
-        PasswordFault::Size => has_odd_size(value),
-        PasswordFault::OtherType => has_other_type(value),
-    }
-}
+impl Test<Any> for PasswordFault {
+    ghost use Rattle.x509_lint.specs.Request.{is_faulty_password};
 
-fn are_faulty_passwords(fault: PasswordFault, values: &[Any]) -> bool
-    ensures { result ≡ list_any (grammar.is_faulty_password fault) values.now }
-{
-    values.iter().any(|value| is_faulty_password(fault, value))
+    ghost holds_of = { is_faulty_password };
+
+    fn holds_of(&self, value: &Any) -> bool {
+        match self {
+            PasswordFault::Size => has_odd_size(value),
+            PasswordFault::OtherType => has_other_type(value),
+        }
+    }
 }
 
 fn has_faulty_value(fault: PasswordFault, attribute: &Attribute) -> bool
     ensures { result ≡ (bytes_eq attribute.now.oid (pkcs_9 7) && list_any (grammar.is_faulty_password fault) attribute.now.values) }
 {
-    attribute.oid == ChallengePassword::OID
-        && are_faulty_passwords(fault, attribute.values.as_slice())
+    attribute.oid == ChallengePassword::OID && any_of(&fault, attribute.values.as_slice())
 }
 
 /// Whether a value of a challengePassword has the fault.
-pub(crate) fn has_faulty_password(fault: PasswordFault, attributes: &[Attribute]) -> bool
-    ensures { result ≡ grammar.has_faulty_password fault attributes.now }
+pub(crate) fn has_faulty_password(fault: PasswordFault, mut attributes: &[Attribute]) -> bool
+    ensures { result ≡ grammar.has_faulty_password fault attributes.entry.now }
 {
-    attributes
-        .iter()
-        .any(|attribute| has_faulty_value(fault, attribute))
+    while let [first, rest @ ..] = attributes {
+        if has_faulty_value(fault, first) {
+            return true;
+        }
+        attributes = rest;
+    }
+    false
 }

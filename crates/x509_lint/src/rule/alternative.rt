@@ -1,6 +1,5 @@
 //! Rules on the alternative names of the subject and the issuer (RFC 5280 4.2.1.6, 4.2.1.7).
 
-ghost use Rattle.std.specs.List.{list_any};
 ghost use Rattle.std.specs.Prelude.{◌≡◌};
 ghost use Rattle.x509_lint.specs.Alternative as grammar;
 ghost use Rattle.x509_lint.specs.Wording.{Says};
@@ -10,10 +9,10 @@ use crate::beyond::{Beyond, is_unjudged};
 use crate::entry::{Entry, rules};
 use crate::extensions::{extensions_of, has};
 use crate::group::{Group, Told};
+use crate::lists::any_of;
 use crate::names::{
-    has_empty_name, has_no_address, has_no_dns_name, has_no_mailbox, has_no_smtp_mailbox,
-    has_no_srv_name, has_no_uri, has_odd_directory_name, has_relative_uri, has_uri_at_other_host,
-    is_rfc822_name,
+    AtOtherHost, EmptyName, NoAddress, NoDnsName, NoMailbox, NoSmtpMailbox, NoSrvName, NoUri,
+    OddDirectoryName, Relative, Rfc822Name,
 };
 use crate::passes;
 use crate::rule::Rule;
@@ -22,7 +21,6 @@ use crate::values::AlternativeValues;
 use x509_base::Raw;
 use x509_cert::certificate::CertificateInner;
 use x509_ext::Extension;
-use x509_ext::pkix::name::GeneralName;
 use x509_ext::pkix::{IssuerAltName, SubjectAltName};
 
 /// Rules on the alternative names of the subject and the issuer (RFC 5280 4.2.1.6, 4.2.1.7).
@@ -142,17 +140,12 @@ impl AlternativeRule {
     }
 }
 
-fn has_mailbox(names: &[GeneralName]) -> bool
-    ensures { result ≡ list_any grammar.is_rfc822_name names.now }
-{
-    names.iter().any(is_rfc822_name)
-}
-
 /// Whether there is no SAN, or the one that there is is read and has no rfc822Name.
 fn lacks_mailbox(extensions: &[Extension], names: &Option<SubjectAltName>) -> bool
     ensures { result ≡ grammar.lacks_mailbox extensions.now names.now }
 {
-    !has::<SubjectAltName>(extensions) || passes!(names, names => !has_mailbox(names.0.as_slice()))
+    !has::<SubjectAltName>(extensions)
+        || passes!(names, names => !any_of(&Rfc822Name, names.0.as_slice()))
 }
 
 impl Group<CertificateInner<Raw>, AlternativeValues> for AlternativeRule {
@@ -171,25 +164,25 @@ impl Group<CertificateInner<Raw>, AlternativeValues> for AlternativeRule {
             AlternativeRule::SubjectAltNameEmpty =>
                 passes!(&values.subject_alt_name, names => names.0.as_slice().is_empty()),
             AlternativeRule::SubjectAltNameEmptyName =>
-                passes!(&values.subject_alt_name, names => has_empty_name(names.0.as_slice())),
+                passes!(&values.subject_alt_name, names => any_of(&EmptyName, names.0.as_slice())),
             AlternativeRule::SubjectAltNameDnsNameInvalid =>
-                passes!(&values.subject_alt_name, names => has_no_dns_name(names.0.as_slice())),
+                passes!(&values.subject_alt_name, names => any_of(&NoDnsName, names.0.as_slice())),
             AlternativeRule::SubjectAltNameAddressLength =>
-                passes!(&values.subject_alt_name, names => has_no_address(names.0.as_slice())),
+                passes!(&values.subject_alt_name, names => any_of(&NoAddress, names.0.as_slice())),
             AlternativeRule::SubjectAltNameMailboxInvalid =>
-                passes!(&values.subject_alt_name, names => has_no_mailbox(names.0.as_slice())),
+                passes!(&values.subject_alt_name, names => any_of(&NoMailbox, names.0.as_slice())),
             AlternativeRule::SubjectAltNameUriRelative =>
-                passes!(&values.subject_alt_name, names => has_relative_uri(names.0.as_slice())),
+                passes!(&values.subject_alt_name, names => any_of(&Relative, names.0.as_slice())),
             AlternativeRule::SubjectAltNameUriInvalid =>
-                passes!(&values.subject_alt_name, names => has_no_uri(names.0.as_slice())),
+                passes!(&values.subject_alt_name, names => any_of(&NoUri, names.0.as_slice())),
             AlternativeRule::SubjectAltNameUriHostInvalid =>
-                passes!(&values.subject_alt_name, names => has_uri_at_other_host(names.0.as_slice())),
+                passes!(&values.subject_alt_name, names => any_of(&AtOtherHost, names.0.as_slice())),
             AlternativeRule::SubjectAltNameDirectoryNameInvalid =>
-                passes!(&values.subject_alt_name, names => has_odd_directory_name(names.0.as_slice())),
+                passes!(&values.subject_alt_name, names => any_of(&OddDirectoryName, names.0.as_slice())),
             AlternativeRule::SubjectAltNameSrvNameInvalid =>
-                passes!(&values.subject_alt_name, names => has_no_srv_name(names.0.as_slice())),
+                passes!(&values.subject_alt_name, names => any_of(&NoSrvName, names.0.as_slice())),
             AlternativeRule::SubjectAltNameSmtpUtf8MailboxInvalid =>
-                passes!(&values.subject_alt_name, names => has_no_smtp_mailbox(names.0.as_slice())),
+                passes!(&values.subject_alt_name, names => any_of(&NoSmtpMailbox, names.0.as_slice())),
             AlternativeRule::SubjectAltNameNotJudged => is_unjudged::<SubjectAltName>(
                 Beyond::Names,
                 extensions_of(certificate),
@@ -198,25 +191,25 @@ impl Group<CertificateInner<Raw>, AlternativeValues> for AlternativeRule {
             AlternativeRule::IssuerAltNameEmpty =>
                 passes!(&values.issuer_alt_name, names => names.0.as_slice().is_empty()),
             AlternativeRule::IssuerAltNameEmptyName =>
-                passes!(&values.issuer_alt_name, names => has_empty_name(names.0.as_slice())),
+                passes!(&values.issuer_alt_name, names => any_of(&EmptyName, names.0.as_slice())),
             AlternativeRule::IssuerAltNameDnsNameInvalid =>
-                passes!(&values.issuer_alt_name, names => has_no_dns_name(names.0.as_slice())),
+                passes!(&values.issuer_alt_name, names => any_of(&NoDnsName, names.0.as_slice())),
             AlternativeRule::IssuerAltNameAddressLength =>
-                passes!(&values.issuer_alt_name, names => has_no_address(names.0.as_slice())),
+                passes!(&values.issuer_alt_name, names => any_of(&NoAddress, names.0.as_slice())),
             AlternativeRule::IssuerAltNameMailboxInvalid =>
-                passes!(&values.issuer_alt_name, names => has_no_mailbox(names.0.as_slice())),
+                passes!(&values.issuer_alt_name, names => any_of(&NoMailbox, names.0.as_slice())),
             AlternativeRule::IssuerAltNameUriRelative =>
-                passes!(&values.issuer_alt_name, names => has_relative_uri(names.0.as_slice())),
+                passes!(&values.issuer_alt_name, names => any_of(&Relative, names.0.as_slice())),
             AlternativeRule::IssuerAltNameUriInvalid =>
-                passes!(&values.issuer_alt_name, names => has_no_uri(names.0.as_slice())),
+                passes!(&values.issuer_alt_name, names => any_of(&NoUri, names.0.as_slice())),
             AlternativeRule::IssuerAltNameUriHostInvalid =>
-                passes!(&values.issuer_alt_name, names => has_uri_at_other_host(names.0.as_slice())),
+                passes!(&values.issuer_alt_name, names => any_of(&AtOtherHost, names.0.as_slice())),
             AlternativeRule::IssuerAltNameDirectoryNameInvalid =>
-                passes!(&values.issuer_alt_name, names => has_odd_directory_name(names.0.as_slice())),
+                passes!(&values.issuer_alt_name, names => any_of(&OddDirectoryName, names.0.as_slice())),
             AlternativeRule::IssuerAltNameSrvNameInvalid =>
-                passes!(&values.issuer_alt_name, names => has_no_srv_name(names.0.as_slice())),
+                passes!(&values.issuer_alt_name, names => any_of(&NoSrvName, names.0.as_slice())),
             AlternativeRule::IssuerAltNameSmtpUtf8MailboxInvalid =>
-                passes!(&values.issuer_alt_name, names => has_no_smtp_mailbox(names.0.as_slice())),
+                passes!(&values.issuer_alt_name, names => any_of(&NoSmtpMailbox, names.0.as_slice())),
             AlternativeRule::IssuerAltNameNotJudged => is_unjudged::<IssuerAltName>(
                 Beyond::Names,
                 extensions_of(certificate),

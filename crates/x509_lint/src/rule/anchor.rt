@@ -1,8 +1,8 @@
 //! Rules on trust anchors (RFC 5914 2, RFC 5280 4.1.2.4, 4.2).
 
 ghost use Rattle.std.specs.Char.{is_ascii_alphanumeric};
-ghost use Rattle.std.specs.List.{list_all, list_any};
-ghost use Rattle.std.specs.Prelude.{◌≡◌, bytes_eq, is_some, length, not};
+ghost use Rattle.std.specs.List.{list_all};
+ghost use Rattle.std.specs.Prelude.{◌≡◌, ◌==◌, bytes_eq, length, not};
 ghost use Rattle.std.specs.Str.{chars};
 ghost use Rattle.x509_lint.specs.Anchor as grammar;
 ghost use Rattle.x509_lint.specs.Constraint.{breaks_name_constraints};
@@ -14,6 +14,7 @@ use crate::anchor::values::{AnchorValues, policy_set};
 use crate::entry::{Entry, rules};
 use crate::extensions::{has, is_empty_sequence};
 use crate::group::{Group, Told};
+use crate::lists::{Test, any_of};
 use crate::names::{has_empty_rdn, has_no_country, is_empty_name};
 use crate::notices::count_chars;
 use crate::passes;
@@ -131,7 +132,7 @@ fn has_odd_size(title: &Option<Utf8String>) -> bool
 fn are_letters_and_digits(octets: &[u8]) -> bool
     ensures { result ≡ list_all is_ascii_alphanumeric octets.now }
 {
-    octets.iter().all(|octet| octet.is_ascii_alphanumeric())
+    octets.iter().all(u8::is_ascii_alphanumeric)
 }
 
 fn is_subtag(octets: &[u8]) -> bool
@@ -140,11 +141,16 @@ fn is_subtag(octets: &[u8]) -> bool
     are_letters_and_digits(octets) && !is_outside(MAX_SUBTAG, octets.len())
 }
 
+fn is_hyphen(octet: &u8) -> bool
+    ensures { result ≡ (octet.now == 45) }
+{
+    *octet == b'-'
+}
+
 fn are_subtags(text: &[u8]) -> bool
     ensures { result ≡ grammar.are_subtags text.now }
 {
-    text.split(|octet| *octet == b'-')
-        .all(|subtag| is_subtag(subtag))
+    text.split(is_hyphen).all(is_subtag)
 }
 
 fn has_faulty_name(fault: TextFault, controls: &Option<CertPathControls<Raw>>) -> bool
@@ -160,12 +166,17 @@ fn is_other_identifier(found: &Option<SubjectKeyIdentifier>, key_id: &OctetStrin
     passes!(found, found => found.0 != *key_id)
 }
 
-fn has_qualifiers(policies: &[PolicyInformation]) -> bool
-    ensures { result ≡ list_any (λ p. is_some p.policy_qualifiers) policies.now }
-{
-    policies
-        .iter()
-        .any(|policy| policy.policy_qualifiers.is_some())
+/// That a policy has qualifiers.
+struct Qualified;
+
+impl Test<PolicyInformation> for Qualified {
+    ghost use Rattle.std.specs.Prelude.{is_some};
+
+    ghost holds_of = { λ test policy. is_some policy.policy_qualifiers };
+
+    fn holds_of(&self, policy: &PolicyInformation) -> bool {
+        policy.policy_qualifiers.is_some()
+    }
 }
 
 impl Group<TrustAnchorInfo<Raw>, AnchorValues> for AnchorRule {
@@ -208,7 +219,7 @@ impl Group<TrustAnchorInfo<Raw>, AnchorValues> for AnchorRule {
             AnchorRule::PolicySetEmpty =>
                 passes!(&info.cert_path, controls => passes!(&controls.policy_set, policies => policies.0.as_slice().is_empty())),
             AnchorRule::PolicySetRepeated => !values.are_policies_distinct,
-            AnchorRule::PolicySetQualifiers => has_qualifiers(policy_set(&info.cert_path)),
+            AnchorRule::PolicySetQualifiers => any_of(&Qualified, policy_set(&info.cert_path)),
         }
     }
 

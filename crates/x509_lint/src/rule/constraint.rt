@@ -9,6 +9,7 @@ ghost use Rattle.x509_lint.specs.Words.{passes};
 use crate::entry::{Entry, rules};
 use crate::extensions::is_empty_sequence;
 use crate::group::{Group, Told};
+use crate::lists::{Test, any_of};
 use crate::names::{BaseFault, is_faulty_base};
 use crate::passes;
 use crate::rule::Rule;
@@ -67,28 +68,54 @@ impl ConstraintRule {
     }
 }
 
-fn have_minimum(subtrees: &Option<GeneralSubtrees>) -> bool
-    ensures { result ≡ passes (λ subtrees. list_any (λ s. not (s.minimum == 0)) subtrees) subtrees.now }
-{
-    passes!(subtrees, subtrees => has_minimum(subtrees.as_slice()))
+/// That the minimum of a subtree isn't 0.
+struct Minimum;
+
+impl Test<GeneralSubtree> for Minimum {
+    ghost use Rattle.std.specs.Prelude.{◌==◌, not};
+
+    ghost holds_of = { λ test subtree. not (subtree.minimum == 0) };
+
+    fn holds_of(&self, subtree: &GeneralSubtree) -> bool {
+        subtree.minimum != 0
+    }
 }
 
-fn has_minimum(subtrees: &[GeneralSubtree]) -> bool
-    ensures { result ≡ list_any (λ s. not (s.minimum == 0)) subtrees.now }
-{
-    subtrees.iter().any(|subtree| subtree.minimum != 0)
+/// That a subtree has a maximum.
+struct Maximum;
+
+impl Test<GeneralSubtree> for Maximum {
+    ghost use Rattle.std.specs.Prelude.{is_some};
+
+    ghost holds_of = { λ test subtree. is_some subtree.maximum };
+
+    fn holds_of(&self, subtree: &GeneralSubtree) -> bool {
+        subtree.maximum.is_some()
+    }
 }
 
-fn have_maximum(subtrees: &Option<GeneralSubtrees>) -> bool
-    ensures { result ≡ passes (λ subtrees. list_any (λ s. is_some s.maximum) subtrees) subtrees.now }
-{
-    passes!(subtrees, subtrees => has_maximum(subtrees.as_slice()))
+impl Test<GeneralSubtree> for BaseFault {
+    ghost use Rattle.x509_lint.specs.Constraint.{has_fault};
+
+    ghost holds_of = { λ fault subtree. has_fault fault subtree.base };
+
+    fn holds_of(&self, subtree: &GeneralSubtree) -> bool {
+        is_faulty_base(*self, &subtree.base)
+    }
 }
 
-fn has_maximum(subtrees: &[GeneralSubtree]) -> bool
-    ensures { result ≡ list_any (λ s. is_some s.maximum) subtrees.now }
+fn have_subtree<P: Test<GeneralSubtree>>(test: &P, subtrees: &Option<GeneralSubtrees>) -> bool
+    ensures { result ≡ passes (λ subtrees. list_any (P.holds_of test.now) subtrees) subtrees.now }
 {
-    subtrees.iter().any(|subtree| subtree.maximum.is_some())
+    passes!(subtrees, subtrees => any_of(test, subtrees.as_slice()))
+}
+
+/// Whether a subtree passes.
+fn has_subtree<P: Test<GeneralSubtree>>(test: &P, constraints: &NameConstraints) -> bool
+    ensures { result ≡ grammar.has_subtree (P.holds_of test.now) constraints.now }
+{
+    have_subtree(test, &constraints.permitted_subtrees)
+        || have_subtree(test, &constraints.excluded_subtrees)
 }
 
 fn has_no_list(constraints: &NameConstraints) -> bool
@@ -104,40 +131,6 @@ fn has_empty_subtrees(constraints: &NameConstraints) -> bool
         || is_empty_sequence(&constraints.excluded_subtrees)
 }
 
-fn has_subtree_with_minimum(constraints: &NameConstraints) -> bool
-    ensures { result ≡ grammar.has_subtree (λ s. not (s.minimum == 0)) constraints.now }
-{
-    have_minimum(&constraints.permitted_subtrees) || have_minimum(&constraints.excluded_subtrees)
-}
-
-fn has_subtree_with_maximum(constraints: &NameConstraints) -> bool
-    ensures { result ≡ grammar.has_subtree (λ s. is_some s.maximum) constraints.now }
-{
-    have_maximum(&constraints.permitted_subtrees) || have_maximum(&constraints.excluded_subtrees)
-}
-
-fn has_fault(fault: BaseFault, subtrees: &[GeneralSubtree]) -> bool
-    ensures { result ≡ list_any (λ s. grammar.has_fault fault s.base) subtrees.now }
-{
-    subtrees
-        .iter()
-        .any(|subtree| is_faulty_base(fault, &subtree.base))
-}
-
-fn have_fault(fault: BaseFault, subtrees: &Option<GeneralSubtrees>) -> bool
-    ensures { result ≡ passes (λ subtrees. list_any (λ s. grammar.has_fault fault s.base) subtrees) subtrees.now }
-{
-    passes!(subtrees, subtrees => has_fault(fault, subtrees.as_slice()))
-}
-
-/// Whether the base of a subtree has the fault.
-fn has_faulty_base(fault: BaseFault, constraints: &NameConstraints) -> bool
-    ensures { result ≡ grammar.has_subtree (λ s. grammar.has_fault fault s.base) constraints.now }
-{
-    have_fault(fault, &constraints.permitted_subtrees)
-        || have_fault(fault, &constraints.excluded_subtrees)
-}
-
 /// Whether the name constraints break the rule.
 pub(crate) fn breaks_name_constraints(rule: ConstraintRule, constraints: &NameConstraints) -> bool
     ensures { result ≡ grammar.breaks_name_constraints rule constraints.now }
@@ -145,19 +138,19 @@ pub(crate) fn breaks_name_constraints(rule: ConstraintRule, constraints: &NameCo
     match rule {
         ConstraintRule::NameConstraintsEmpty => has_no_list(constraints),
         ConstraintRule::NameConstraintsOtherForm => {
-            has_faulty_base(BaseFault::OtherForm, constraints)
+            has_subtree(&BaseFault::OtherForm, constraints)
         }
         ConstraintRule::NameConstraintsSubtreesEmpty => has_empty_subtrees(constraints),
-        ConstraintRule::NameConstraintsMinimum => has_subtree_with_minimum(constraints),
-        ConstraintRule::NameConstraintsMaximum => has_subtree_with_maximum(constraints),
+        ConstraintRule::NameConstraintsMinimum => has_subtree(&Minimum, constraints),
+        ConstraintRule::NameConstraintsMaximum => has_subtree(&Maximum, constraints),
         ConstraintRule::NameConstraintsUriInvalid => {
-            has_faulty_base(BaseFault::NoHost, constraints)
+            has_subtree(&BaseFault::NoHost, constraints)
         }
         ConstraintRule::NameConstraintsAddressLength => {
-            has_faulty_base(BaseFault::NoRange, constraints)
+            has_subtree(&BaseFault::NoRange, constraints)
         }
         ConstraintRule::NameConstraintsAddressMask => {
-            has_faulty_base(BaseFault::OddMask, constraints)
+            has_subtree(&BaseFault::OddMask, constraints)
         }
     }
 }

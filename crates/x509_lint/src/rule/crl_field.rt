@@ -13,6 +13,7 @@ use crate::entry::{Entry, rules};
 use crate::extensions::{has, is_empty_sequence};
 use crate::facts::CrlFacts;
 use crate::group::{Group, Told};
+use crate::lists::{Test, any_of};
 use crate::names::{has_empty_rdn, has_no_country, is_empty_name};
 use crate::passes;
 use crate::rule::Rule;
@@ -226,41 +227,58 @@ fn is_not_v2(version: &Option<Version>) -> bool
     }
 }
 
-fn have_extensions(entries: &[RevokedCert<Raw>]) -> bool
-    ensures { result ≡ list_any (λ e. is_some e.crl_entry_extensions) entries.now }
-{
-    entries
-        .iter()
-        .any(|entry| entry.crl_entry_extensions.is_some())
+/// That an entry has extensions.
+struct Extended;
+
+impl Test<RevokedCert<Raw>> for Extended {
+    ghost use Rattle.std.specs.Prelude.{is_some};
+
+    ghost holds_of = { λ test entry. is_some entry.crl_entry_extensions };
+
+    fn holds_of(&self, entry: &RevokedCert<Raw>) -> bool {
+        entry.crl_entry_extensions.is_some()
+    }
 }
 
-fn have_empty_extensions(entries: &[RevokedCert<Raw>]) -> bool
-    ensures { result ≡ list_any (λ e. passes is_empty e.crl_entry_extensions) entries.now }
-{
-    entries
-        .iter()
-        .any(|entry| is_empty_sequence(&entry.crl_entry_extensions))
+/// That the list of an entry's extensions is there, and has none.
+struct EmptyExtensions;
+
+impl Test<RevokedCert<Raw>> for EmptyExtensions {
+    ghost use Rattle.x509_lint.specs.Words.{is_empty, passes};
+
+    ghost holds_of = { λ test entry. passes is_empty entry.crl_entry_extensions };
+
+    fn holds_of(&self, entry: &RevokedCert<Raw>) -> bool {
+        is_empty_sequence(&entry.crl_entry_extensions)
+    }
 }
 
-fn has_issuer(entry: &RevokedCert<Raw>) -> bool
-    ensures { result ≡ has (id_ce 29) (members entry.now.crl_entry_extensions) }
-{
-    has::<CertificateIssuer>(members(entry.crl_entry_extensions.as_ref()))
+/// That an entry has a certificateIssuer.
+struct Issued;
+
+impl Test<RevokedCert<Raw>> for Issued {
+    ghost use Rattle.x509_ext.specs.Identifiers.{id_ce};
+    ghost use Rattle.x509_ext.specs.LookUp.{members};
+    ghost use Rattle.x509_lint.specs.Words.{has};
+
+    ghost holds_of = { λ test entry. has (id_ce 29) (members entry.crl_entry_extensions) };
+
+    fn holds_of(&self, entry: &RevokedCert<Raw>) -> bool {
+        has::<CertificateIssuer>(members(entry.crl_entry_extensions.as_ref()))
+    }
 }
 
-/// Whether an entry has a certificateIssuer.
-fn has_certificate_issuer(entries: &[RevokedCert<Raw>]) -> bool
-    ensures { result ≡ list_any (λ e. has (id_ce 29) (members e.crl_entry_extensions)) entries.now }
-{
-    entries.iter().any(has_issuer)
-}
+/// That the revocation date of an entry is one through 2049, and a GeneralizedTime.
+struct EarlyGeneral;
 
-fn have_early_general_date(entries: &[RevokedCert<Raw>]) -> bool
-    ensures { result ≡ list_any (λ e. is_early_general e.revocation_date) entries.now }
-{
-    entries
-        .iter()
-        .any(|entry| is_early_general(entry.revocation_date))
+impl Test<RevokedCert<Raw>> for EarlyGeneral {
+    ghost use Rattle.x509_lint.specs.Words.{is_early_general};
+
+    ghost holds_of = { λ test entry. is_early_general entry.revocation_date };
+
+    fn holds_of(&self, entry: &RevokedCert<Raw>) -> bool {
+        is_early_general(entry.revocation_date)
+    }
 }
 
 fn is_next_early_general(next: Option<Time>) -> bool
@@ -288,7 +306,7 @@ impl Group<CertificateList<Raw>, CrlFacts> for CrlFieldRule {
         match self {
             CrlFieldRule::SignatureAlgorithmsDiffer => facts.algorithms_differ,
             CrlFieldRule::ExtensionsWithoutV2 => (part.crl_extensions.is_some()
-                || have_extensions(part.entries()))
+                || any_of(&Extended, part.entries()))
                 && !is_v2(&part.version),
             CrlFieldRule::VersionNotV2 => is_not_v2(&part.version),
             CrlFieldRule::IssuerEmpty => is_empty_name(&part.issuer),
@@ -315,8 +333,8 @@ impl Group<CertificateList<Raw>, CrlFacts> for CrlFieldRule {
             ),
             CrlFieldRule::RevokedCertificatesEmpty => is_empty_sequence(&part.revoked_certificates),
             CrlFieldRule::SerialNumberRepeated => !facts.are_serials_distinct
-                && !has_certificate_issuer(part.entries()),
-            CrlFieldRule::RevocationDateNotUtcTime => have_early_general_date(part.entries()),
+                && !any_of(&Issued, part.entries()),
+            CrlFieldRule::RevocationDateNotUtcTime => any_of(&EarlyGeneral, part.entries()),
             CrlFieldRule::ExtensionsEmpty => is_empty_sequence(&part.crl_extensions),
             CrlFieldRule::ExtensionRepeated => facts.is_repeated,
         }
@@ -362,7 +380,8 @@ impl Group<CertificateList<Raw>, CrlFacts> for CrlEntryListRule {
 
     fn is_broken(&self, crl: &CertificateList<Raw>, facts: &CrlFacts) -> bool {
         match self {
-            CrlEntryListRule::EntryExtensionsEmpty => have_empty_extensions(
+            CrlEntryListRule::EntryExtensionsEmpty => any_of(
+                &EmptyExtensions,
                 crl.tbs_cert_list.entries(),
             ),
             CrlEntryListRule::EntryExtensionRepeated => !facts.are_entries_distinct,

@@ -104,9 +104,7 @@ fn has_half_issuer(identifier: &Option<AuthorityKeyIdentifier>) -> bool
 fn is_any_among(purposes: &[ObjectIdentifier]) -> bool
     ensures { result ≡ list_any (λ purpose. bytes_eq purpose grammar.any_extended_key_usage) purposes.now }
 {
-    purposes
-        .iter()
-        .any(|purpose| *purpose == ANY_EXTENDED_KEY_USAGE)
+    purposes.contains(&ANY_EXTENDED_KEY_USAGE)
 }
 
 fn has_no_date(period: &Option<PrivateKeyUsagePeriod>) -> bool

@@ -9,13 +9,14 @@ use crate::beyond::{Beyond, is_unjudged};
 use crate::entry::{Entry, rules};
 use crate::extensions::extensions_of;
 use crate::group::{Group, Told};
+use crate::lists::{Test, any_of};
 use crate::passes;
 use crate::places::{
     CA_ISSUERS, CA_REPOSITORY, OCSP, PointFault, are_partial, has_fault, has_incomplete_search,
     has_other_uri, has_place_without_host, has_point_of, lacks_any_uri, lacks_uri,
 };
 use crate::rule::Rule;
-use crate::rule::request::has_no_values;
+use crate::rule::request::NoValues;
 use crate::values::PointValues;
 use x509_base::Raw;
 use x509_cert::certificate::CertificateInner;
@@ -202,17 +203,17 @@ impl PointRule {
     }
 }
 
-/// Whether the point has neither a name nor a CRL issuer.
-fn is_empty_point(point: &DistributionPoint) -> bool
-    ensures { result ≡ grammar.is_empty_point point.now }
-{
-    !point.distribution_point.is_some() && !point.crl_issuer.is_some()
-}
+/// That a point has neither a name nor a CRL issuer.
+struct EmptyPoint;
 
-fn has_empty_point(points: &[DistributionPoint]) -> bool
-    ensures { result ≡ list_any grammar.is_empty_point points.now }
-{
-    points.iter().any(is_empty_point)
+impl Test<DistributionPoint> for EmptyPoint {
+    ghost use Rattle.x509_lint.specs.Point.{is_empty_point};
+
+    ghost holds_of = { λ test. is_empty_point };
+
+    fn holds_of(&self, point: &DistributionPoint) -> bool {
+        !point.distribution_point.is_some() && !point.crl_issuer.is_some()
+    }
 }
 
 impl Group<CertificateInner<Raw>, PointValues> for PointRule {
@@ -228,7 +229,7 @@ impl Group<CertificateInner<Raw>, PointValues> for PointRule {
             PointRule::SubjectDirectoryAttributesEmpty =>
                 passes!(&values.subject_directory_attributes, list => list.0.as_slice().is_empty()),
             PointRule::SubjectDirectoryAttributeValuesEmpty =>
-                passes!(&values.subject_directory_attributes, list => has_no_values(list.0.as_slice())),
+                passes!(&values.subject_directory_attributes, list => any_of(&NoValues, list.0.as_slice())),
             PointRule::SubjectDirectoryAttributesNotJudged => is_unjudged::<
                 SubjectDirectoryAttributes,
             >(
@@ -239,7 +240,7 @@ impl Group<CertificateInner<Raw>, PointValues> for PointRule {
             PointRule::CrlDistributionPointsEmpty =>
                 passes!(&values.crl_distribution_points, list => list.0.as_slice().is_empty()),
             PointRule::DistributionPointEmpty =>
-                passes!(&values.crl_distribution_points, list => has_empty_point(list.0.as_slice())),
+                passes!(&values.crl_distribution_points, list => any_of(&EmptyPoint, list.0.as_slice())),
             PointRule::DistributionPointNamesEmpty =>
                 passes!(&values.crl_distribution_points, list => has_fault(PointFault::NoNames, list.0.as_slice())),
             PointRule::DistributionPointRelative =>
@@ -281,7 +282,7 @@ impl Group<CertificateInner<Raw>, PointValues> for PointRule {
             PointRule::FreshestCrlEmpty =>
                 passes!(&values.freshest_crl, list => list.0.as_slice().is_empty()),
             PointRule::FreshestCrlPointEmpty =>
-                passes!(&values.freshest_crl, list => has_empty_point(list.0.as_slice())),
+                passes!(&values.freshest_crl, list => any_of(&EmptyPoint, list.0.as_slice())),
             PointRule::FreshestCrlPointNamesEmpty =>
                 passes!(&values.freshest_crl, list => has_fault(PointFault::NoNames, list.0.as_slice())),
             PointRule::FreshestCrlPointRelative =>

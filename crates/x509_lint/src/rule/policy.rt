@@ -11,6 +11,7 @@ use crate::beyond::{Beyond, is_unjudged};
 use crate::entry::{Entry, rules};
 use crate::extensions::{extensions_of, has, is_empty_sequence};
 use crate::group::{Group, Told};
+use crate::lists::{Test, any_of};
 use crate::notices::USER_NOTICE;
 use crate::passes;
 use crate::rule::Rule;
@@ -131,24 +132,30 @@ const ANY_POLICY: ObjectIdentifier = oid!(0x55, 0x1D, 32, 0);
 /// id-qt-cps, 1.3.6.1.5.5.7.2.1 (RFC 5280 4.2.1.4).
 const CPS: ObjectIdentifier = oid!(0x2B, 0x06, 0x01, 0x05, 0x05, 0x07, 2, 1);
 
-fn is_of_any_policy(mapping: &PolicyMapping) -> bool
-    ensures { result ≡ grammar.is_of_any_policy mapping.now }
-{
-    mapping.issuer_domain_policy == ANY_POLICY || mapping.subject_domain_policy == ANY_POLICY
+/// That a mapping is from or to anyPolicy.
+struct OfAnyPolicy;
+
+impl Test<PolicyMapping> for OfAnyPolicy {
+    ghost use Rattle.x509_lint.specs.Policy.{is_of_any_policy};
+
+    ghost holds_of = { λ test. is_of_any_policy };
+
+    fn holds_of(&self, mapping: &PolicyMapping) -> bool {
+        mapping.issuer_domain_policy == ANY_POLICY || mapping.subject_domain_policy == ANY_POLICY
+    }
 }
 
-fn has_any_policy(mappings: &[PolicyMapping]) -> bool
-    ensures { result ≡ list_any grammar.is_of_any_policy mappings.now }
-{
-    mappings.iter().any(is_of_any_policy)
-}
+/// That the list of a policy's qualifiers is there, and has none.
+struct EmptyQualifiers;
 
-fn has_empty_qualifiers(policies: &[PolicyInformation]) -> bool
-    ensures { result ≡ list_any (λ policy. passes is_empty policy.policy_qualifiers) policies.now }
-{
-    policies
-        .iter()
-        .any(|policy| is_empty_sequence(&policy.policy_qualifiers))
+impl Test<PolicyInformation> for EmptyQualifiers {
+    ghost use Rattle.x509_lint.specs.Words.{is_empty, passes};
+
+    ghost holds_of = { λ test policy. passes is_empty policy.policy_qualifiers };
+
+    fn holds_of(&self, policy: &PolicyInformation) -> bool {
+        is_empty_sequence(&policy.policy_qualifiers)
+    }
 }
 
 fn has_no_number(constraints: &Option<AnyPolicyConstraints>) -> bool
@@ -170,47 +177,49 @@ fn are_policies_known(certificate: &CertificateInner<Raw>, values: &PolicyValues
     !has::<CertificatePolicies>(extensions_of(certificate)) || values.certificate_policies.is_some()
 }
 
-/// Whether the qualifier is neither a CPS pointer nor a user notice.
-fn is_other_qualifier(qualifier: &PolicyQualifierInfo) -> bool
-    ensures { result ≡ grammar.is_other_qualifier qualifier.now }
-{
-    qualifier.policy_qualifier_id != CPS && qualifier.policy_qualifier_id != USER_NOTICE
-}
+/// That a qualifier is neither a CPS pointer nor a user notice.
+struct OtherQualifier;
 
-fn are_other_qualifiers(qualifiers: &[PolicyQualifierInfo]) -> bool
-    ensures { result ≡ list_any grammar.is_other_qualifier qualifiers.now }
-{
-    qualifiers.iter().any(is_other_qualifier)
-}
+impl Test<PolicyQualifierInfo> for OtherQualifier {
+    ghost use Rattle.x509_lint.specs.Policy.{is_other_qualifier};
 
-fn is_other_policy(policy: &PolicyInformation) -> bool
-    ensures { result ≡ grammar.has_other_qualifier policy.now }
-{
-    if policy.policy_identifier != ANY_POLICY {
-        return false;
+    ghost holds_of = { λ test. is_other_qualifier };
+
+    fn holds_of(&self, qualifier: &PolicyQualifierInfo) -> bool {
+        qualifier.policy_qualifier_id != CPS && qualifier.policy_qualifier_id != USER_NOTICE
     }
-    passes!(&policy.policy_qualifiers, qualifiers => are_other_qualifiers(qualifiers.as_slice()))
 }
 
-fn has_other_qualifier(policies: &[PolicyInformation]) -> bool
-    ensures { result ≡ list_any grammar.has_other_qualifier policies.now }
-{
-    policies.iter().any(is_other_policy)
-}
+/// That a policy is anyPolicy, and has such a qualifier.
+struct OtherOfAnyPolicy;
 
-fn is_further_policy(policy: &PolicyInformation) -> bool
-    ensures { result ≡ grammar.has_further_qualifier policy.now }
-{
-    if policy.policy_identifier == ANY_POLICY {
-        return false;
+impl Test<PolicyInformation> for OtherOfAnyPolicy {
+    ghost use Rattle.x509_lint.specs.Policy.{has_other_qualifier};
+
+    ghost holds_of = { λ test. has_other_qualifier };
+
+    fn holds_of(&self, policy: &PolicyInformation) -> bool {
+        if policy.policy_identifier != ANY_POLICY {
+            return false;
+        }
+        passes!(&policy.policy_qualifiers, qualifiers => any_of(&OtherQualifier, qualifiers.as_slice()))
     }
-    passes!(&policy.policy_qualifiers, qualifiers => are_other_qualifiers(qualifiers.as_slice()))
 }
 
-fn has_further_qualifier(policies: &[PolicyInformation]) -> bool
-    ensures { result ≡ list_any grammar.has_further_qualifier policies.now }
-{
-    policies.iter().any(is_further_policy)
+/// That a policy is another, and has such a qualifier.
+struct OtherOfPolicy;
+
+impl Test<PolicyInformation> for OtherOfPolicy {
+    ghost use Rattle.x509_lint.specs.Policy.{has_further_qualifier};
+
+    ghost holds_of = { λ test. has_further_qualifier };
+
+    fn holds_of(&self, policy: &PolicyInformation) -> bool {
+        if policy.policy_identifier == ANY_POLICY {
+            return false;
+        }
+        passes!(&policy.policy_qualifiers, qualifiers => any_of(&OtherQualifier, qualifiers.as_slice()))
+    }
 }
 
 /// What may be wrong with a CPS pointer (RFC 5280 4.2.1.4).
@@ -245,34 +254,24 @@ fn is_faulty_text(fault: PointerFault, qualifier: &Option<Any>) -> bool
     }
 }
 
-/// Whether the qualifier is a CPS pointer with the fault.
-fn is_faulty_pointer(fault: PointerFault, qualifier: &PolicyQualifierInfo) -> bool
-    ensures { result ≡ grammar.is_faulty_pointer fault qualifier.now }
-{
-    qualifier.policy_qualifier_id == CPS && is_faulty_text(fault, &qualifier.qualifier)
+impl Test<PolicyQualifierInfo> for PointerFault {
+    ghost use Rattle.x509_lint.specs.Policy.{is_faulty_pointer};
+
+    ghost holds_of = { is_faulty_pointer };
+
+    fn holds_of(&self, qualifier: &PolicyQualifierInfo) -> bool {
+        qualifier.policy_qualifier_id == CPS && is_faulty_text(*self, &qualifier.qualifier)
+    }
 }
 
-fn are_faulty_pointers(fault: PointerFault, qualifiers: &[PolicyQualifierInfo]) -> bool
-    ensures { result ≡ list_any (grammar.is_faulty_pointer fault) qualifiers.now }
-{
-    qualifiers
-        .iter()
-        .any(|qualifier| is_faulty_pointer(fault, qualifier))
-}
+impl Test<PolicyInformation> for PointerFault {
+    ghost use Rattle.x509_lint.specs.Policy.{has_faulty_pointer};
 
-fn is_policy_of_pointer(fault: PointerFault, policy: &PolicyInformation) -> bool
-    ensures { result ≡ grammar.has_faulty_pointer fault policy.now }
-{
-    passes!(&policy.policy_qualifiers, qualifiers => are_faulty_pointers(fault, qualifiers.as_slice()))
-}
+    ghost holds_of = { has_faulty_pointer };
 
-/// Whether a policy has a CPS pointer with the fault.
-fn has_faulty_pointer(fault: PointerFault, policies: &[PolicyInformation]) -> bool
-    ensures { result ≡ list_any (grammar.has_faulty_pointer fault) policies.now }
-{
-    policies
-        .iter()
-        .any(|policy| is_policy_of_pointer(fault, policy))
+    fn holds_of(&self, policy: &PolicyInformation) -> bool {
+        passes!(&policy.policy_qualifiers, qualifiers => any_of(self, qualifiers.as_slice()))
+    }
 }
 
 impl Group<CertificateInner<Raw>, PolicyValues> for PolicyRule {
@@ -289,15 +288,15 @@ impl Group<CertificateInner<Raw>, PolicyValues> for PolicyRule {
                 passes!(&values.certificate_policies, policies => policies.0.as_slice().is_empty()),
             PolicyRule::CertificatePolicyRepeated => !values.are_policies_distinct,
             PolicyRule::PolicyQualifiersEmpty =>
-                passes!(&values.certificate_policies, policies => has_empty_qualifiers(policies.0.as_slice())),
+                passes!(&values.certificate_policies, policies => any_of(&EmptyQualifiers, policies.0.as_slice())),
             PolicyRule::AnyPolicyQualifierInvalid =>
-                passes!(&values.certificate_policies, policies => has_other_qualifier(policies.0.as_slice())),
+                passes!(&values.certificate_policies, policies => any_of(&OtherOfAnyPolicy, policies.0.as_slice())),
             PolicyRule::PolicyQualifierOther =>
-                passes!(&values.certificate_policies, policies => has_further_qualifier(policies.0.as_slice())),
+                passes!(&values.certificate_policies, policies => any_of(&OtherOfPolicy, policies.0.as_slice())),
             PolicyRule::CpsPointerMalformed =>
-                passes!(&values.certificate_policies, policies => has_faulty_pointer(PointerFault::NoText, policies.0.as_slice())),
+                passes!(&values.certificate_policies, policies => any_of(&PointerFault::NoText, policies.0.as_slice())),
             PolicyRule::CpsPointerNotUri =>
-                passes!(&values.certificate_policies, policies => has_faulty_pointer(PointerFault::NoUri, policies.0.as_slice())),
+                passes!(&values.certificate_policies, policies => any_of(&PointerFault::NoUri, policies.0.as_slice())),
             PolicyRule::UserNoticeMalformed => values.has_unread_notice,
             PolicyRule::ExplicitTextTooLong => values.has_long_text,
             PolicyRule::ExplicitTextEmpty => values.has_empty_text,
@@ -314,7 +313,7 @@ impl Group<CertificateInner<Raw>, PolicyValues> for PolicyRule {
             PolicyRule::PolicyMappingsEmpty =>
                 passes!(&values.policy_mappings, mappings => mappings.0.as_slice().is_empty()),
             PolicyRule::PolicyMappingAnyPolicy =>
-                passes!(&values.policy_mappings, mappings => has_any_policy(mappings.0.as_slice())),
+                passes!(&values.policy_mappings, mappings => any_of(&OfAnyPolicy, mappings.0.as_slice())),
             PolicyRule::PolicyMappingNotAsserted => are_policies_known(certificate, values)
                 && values.has_unasserted_mapping,
             PolicyRule::PolicyMappingsNotJudged => is_unjudged::<PolicyMappings>(

@@ -10,10 +10,10 @@ use crate::beyond::{Beyond, is_unjudged};
 use crate::entry::{Entry, rules};
 use crate::extensions::has;
 use crate::group::{Group, Told};
+use crate::lists::{Test, any_of};
 use crate::names::{
-    has_empty_name, has_empty_rdn, has_no_address, has_no_country, has_no_dns_name, has_no_mailbox,
-    has_no_smtp_mailbox, has_no_srv_name, has_no_uri, has_odd_directory_name, has_relative_uri,
-    has_uri_at_other_host, is_empty_name,
+    AtOtherHost, EmptyName, NoAddress, NoDnsName, NoMailbox, NoSmtpMailbox, NoSrvName, NoUri,
+    OddDirectoryName, Relative, has_empty_rdn, has_no_country, is_empty_name,
 };
 use crate::passes;
 use crate::request::passwords::{PasswordFault, has_faulty_password};
@@ -120,13 +120,17 @@ impl RequestRule {
     }
 }
 
-/// Whether an attribute has no value.
-pub(crate) fn has_no_values(attributes: &[Attribute]) -> bool
-    ensures { result ≡ list_any (λ a. is_empty a.values) attributes.now }
-{
-    attributes
-        .iter()
-        .any(|attribute| attribute.values.as_slice().is_empty())
+/// That an attribute has no value.
+pub(crate) struct NoValues;
+
+impl Test<Attribute> for NoValues {
+    ghost use Rattle.x509_lint.specs.Words.{is_empty};
+
+    ghost holds_of = { λ test attribute. is_empty attribute.values };
+
+    fn holds_of(&self, attribute: &Attribute) -> bool {
+        attribute.values.as_slice().is_empty()
+    }
 }
 
 fn is_of_several<T: AssociatedOid>(attribute: &Attribute) -> bool
@@ -136,12 +140,16 @@ fn is_of_several<T: AssociatedOid>(attribute: &Attribute) -> bool
 }
 
 /// Whether an attribute of the type has two values or more.
-fn has_several_values<T: AssociatedOid>(attributes: &[Attribute]) -> bool
-    ensures { result ≡ grammar.has_several_values T.OID attributes.now }
+fn has_several_values<T: AssociatedOid>(mut attributes: &[Attribute]) -> bool
+    ensures { result ≡ grammar.has_several_values T.OID attributes.entry.now }
 {
-    attributes
-        .iter()
-        .any(|attribute| is_of_several::<T>(attribute))
+    while let [first, rest @ ..] = attributes {
+        if is_of_several::<T>(first) {
+            return true;
+        }
+        attributes = rest;
+    }
+    false
 }
 
 impl Group<CertReq, RequestValues> for RequestRule {
@@ -177,7 +185,10 @@ impl Group<CertReq, RequestValues> for RequestRule {
             RequestRule::SubjectEmptyWithoutAltName => is_empty_name(&request.info.subject)
                 && !has::<SubjectAltName>(requested_extensions(&values.requested)),
             RequestRule::AttributeRepeated => !values.are_types_distinct,
-            RequestRule::AttributeValuesEmpty => has_no_values(request.info.attributes.as_slice()),
+            RequestRule::AttributeValuesEmpty => any_of(
+                &NoValues,
+                request.info.attributes.as_slice(),
+            ),
             RequestRule::ChallengePasswordValues => has_several_values::<ChallengePassword>(
                 request.info.attributes.as_slice(),
             ),
@@ -312,25 +323,25 @@ impl Group<CertReq, RequestValues> for RequestNameRule {
             RequestNameRule::SubjectAltNameEmpty =>
                 passes!(&values.subject_alt_name, names => names.0.as_slice().is_empty()),
             RequestNameRule::SubjectAltNameEmptyName =>
-                passes!(&values.subject_alt_name, names => has_empty_name(names.0.as_slice())),
+                passes!(&values.subject_alt_name, names => any_of(&EmptyName, names.0.as_slice())),
             RequestNameRule::SubjectAltNameDnsNameInvalid =>
-                passes!(&values.subject_alt_name, names => has_no_dns_name(names.0.as_slice())),
+                passes!(&values.subject_alt_name, names => any_of(&NoDnsName, names.0.as_slice())),
             RequestNameRule::SubjectAltNameAddressLength =>
-                passes!(&values.subject_alt_name, names => has_no_address(names.0.as_slice())),
+                passes!(&values.subject_alt_name, names => any_of(&NoAddress, names.0.as_slice())),
             RequestNameRule::SubjectAltNameMailboxInvalid =>
-                passes!(&values.subject_alt_name, names => has_no_mailbox(names.0.as_slice())),
+                passes!(&values.subject_alt_name, names => any_of(&NoMailbox, names.0.as_slice())),
             RequestNameRule::SubjectAltNameUriRelative =>
-                passes!(&values.subject_alt_name, names => has_relative_uri(names.0.as_slice())),
+                passes!(&values.subject_alt_name, names => any_of(&Relative, names.0.as_slice())),
             RequestNameRule::SubjectAltNameUriInvalid =>
-                passes!(&values.subject_alt_name, names => has_no_uri(names.0.as_slice())),
+                passes!(&values.subject_alt_name, names => any_of(&NoUri, names.0.as_slice())),
             RequestNameRule::SubjectAltNameUriHostInvalid =>
-                passes!(&values.subject_alt_name, names => has_uri_at_other_host(names.0.as_slice())),
+                passes!(&values.subject_alt_name, names => any_of(&AtOtherHost, names.0.as_slice())),
             RequestNameRule::SubjectAltNameDirectoryNameInvalid =>
-                passes!(&values.subject_alt_name, names => has_odd_directory_name(names.0.as_slice())),
+                passes!(&values.subject_alt_name, names => any_of(&OddDirectoryName, names.0.as_slice())),
             RequestNameRule::SubjectAltNameSrvNameInvalid =>
-                passes!(&values.subject_alt_name, names => has_no_srv_name(names.0.as_slice())),
+                passes!(&values.subject_alt_name, names => any_of(&NoSrvName, names.0.as_slice())),
             RequestNameRule::SubjectAltNameSmtpUtf8MailboxInvalid =>
-                passes!(&values.subject_alt_name, names => has_no_smtp_mailbox(names.0.as_slice())),
+                passes!(&values.subject_alt_name, names => any_of(&NoSmtpMailbox, names.0.as_slice())),
             RequestNameRule::SubjectAltNameNotJudged => is_unjudged::<SubjectAltName>(
                 Beyond::Names,
                 requested_extensions(&values.requested),
