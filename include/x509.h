@@ -662,6 +662,12 @@ x509_status x509_distribution_points_encode(const uint8_t *points, size_t len, u
 x509_status x509_issuing_distribution_point_encode(const x509_issuing_distribution_point_view *view, const uint8_t *full_name, size_t full_name_len,
                                                    const uint8_t *relative_name, size_t relative_name_len, uint8_t *out, size_t room, size_t *written);
 
+/* Writes the element with this identifier octet, as 0x05 of a NULL, and these content octets (X.690 8.1.2.2, 8.1.3), for what no call above encodes. That the
+ * type has a value with such content isn't looked at. X509_VALUE where no element begins with the octet here: one of the universal class but 0x01 to 0x06, 0x09,
+ * 0x0a, 0x0c, 0x0d, 0x12 to 0x1c, 0x1e, 0x30 and 0x31, one of another class whose low five bits are 31, or a number above 255. It takes no memory.
+ * Answers X509_OK, X509_ROOM, X509_OVERLENGTH, X509_VALUE. */
+x509_status x509_element_encode(uint32_t identifier, const uint8_t *content, size_t len, uint8_t *out, size_t room, size_t *written);
+
 /* ---- names
  *
  * A Name is a list of relative names, and each of these a set of attributes; these calls walk over both, as those under payloads do over lists. */

@@ -684,6 +684,39 @@ static void encoded_names(void)
     WANT(REFUSED(x509_general_names_encode(BYTES("\x04\x00"), OUT), X509_MALFORMED));
 }
 
+/* Elements of an identifier octet and a content, by hand (X.690 8.1.2.2, 8.1.3, 8.8, 8.14.3, 10.1). */
+static void encoded_elements(void)
+{
+    WANT(WROTE(x509_element_encode(0x05, nothing, 0, OUT), "\x05\x00"));
+    WANT(WROTE(x509_element_encode(0x30, BYTES("\x06\x02\x2a\x03\x05\x00"), OUT), "\x30\x06\x06\x02\x2a\x03\x05\x00"));
+    WANT(WROTE(x509_element_encode(0x82, BYTES("a"), OUT), DNS_NAME) && WROTE(x509_element_encode(0xbe, BYTES("\x05\x00"), OUT), "\xbe\x02\x05\x00"));
+    WANT(x509_element_encode(0x30, BYTES("\x05\x00"), room, 3, &written) == X509_ROOM && written == 4);
+    WANT(x509_element_encode(0x30, BYTES("\x05\x00"), room, 4, &written) == X509_OK && written == 4);
+
+    /* as few length octets as there can be */
+    static uint8_t octets[65536];
+    static const struct {
+        size_t len, header_len;
+        const char *header;
+    } headers[] = {{127, 2, "\x04\x7f"}, {128, 3, "\x04\x81\x80"}, {255, 3, "\x04\x81\xff"}, {256, 4, "\x04\x82\x01\x00"}, {65532, 4, "\x04\x82\xff\xfc"}};
+    memset(octets, 7, sizeof octets);
+    for (size_t at = 0; at < sizeof headers / sizeof headers[0]; at++) {
+        WANT(x509_element_encode(0x04, octets, headers[at].len, OUT) == X509_OK && written == headers[at].header_len + headers[at].len);
+        WANT(memcmp(room, headers[at].header, headers[at].header_len) == 0 && memcmp(room + headers[at].header_len, octets, headers[at].len) == 0);
+    }
+    WANT(x509_element_encode(0x04, octets, 65535, OUT) == X509_ROOM && written == 65539);
+    WANT(x509_element_encode(0x04, octets, 65536, OUT) == X509_ROOM && written == 65541);
+
+    /* 24 octets of the universal class, and of each of the others 2 * 31: 31 says that further octets follow (X.690 8.1.2.4) */
+    int accepted = 0;
+    for (uint32_t octet = 0; octet < 256; octet++)
+        accepted += x509_element_encode(octet, nothing, 0, OUT) == X509_OK && written == 2 && room[0] == octet && room[1] == 0;
+    WANT(accepted == 24 + 3 * 62);
+    const uint32_t refused[] = {0, 0x07, 0x08, 0x0b, 0x0e, 0x10, 0x11, 0x1d, 0x1f, 0x24, 0x3f, 0x5f, 0x7f, 0x9f, 0xbf, 0xff, 0x105, UINT32_MAX};
+    for (size_t at = 0; at < sizeof refused / sizeof refused[0]; at++)
+        WANT(REFUSED(x509_element_encode(refused[at], BYTES("\x05\x00"), OUT), X509_VALUE));
+}
+
 /* Policies of certificates, and numbers and attributes of subjects, by hand (RFC 5280 4.2.1.4, 4.2.1.5, 4.2.1.8, RFC 7633 4, X.690 8.3, 8.9). */
 #define QUALIFIER "\x30\x06\x06\x02\x2a\x03\x05\x00"
 #define POLICY "\x30\x04\x06\x02\x2a\x03"
@@ -1115,6 +1148,7 @@ int main(int argc, char **argv)
     encoded();
     encoded_moments();
     encoded_names();
+    encoded_elements();
     encoded_notices();
     encoded_timestamps();
     encoded_policies();

@@ -184,6 +184,8 @@ static void no_pointers(void)
     WANT(x509_distribution_points_encode(NULL, 0, NULL, 0, &written) == X509_VALUE && x509_subtree_encode(NULL, 0, NULL, 0, &written) == X509_MALFORMED);
     WANT(x509_name_constraints_encode(NULL, 0, NULL, 0, NULL, 0, &written) == X509_VALUE && written == 77);
     WANT(x509_distribution_point_encode(NULL, 0, NULL, 0, 0, 0, NULL, 0, NULL, 0, &written) == X509_VALUE && written == 77);
+    WANT(x509_element_encode(0, NULL, 0, NULL, 0, &written) == X509_VALUE && written == 77);
+    WANT(x509_element_encode(0x05, NULL, 0, NULL, 0, &written) == X509_ROOM && written == 2);
     WANT(x509_cps_uri_encode(NULL, 0, NULL, 0, &written) == X509_ROOM && written == 2);
     WANT(x509_numbers_encode(NULL, 0, NULL, 0, NULL, 0, &written) == X509_ROOM && written == 2);
     WANT(x509_user_notice_encode(NULL, 0, NULL, 0, NULL, 0, NULL, 0, &written) == X509_ROOM && written == 2);
@@ -450,7 +452,10 @@ static void overlong_mappings(uint8_t *bytes, size_t len)
 /* What builds, of a part that is too long. */
 static void overlong_parts(uint8_t *bytes, size_t len)
 {
+    /* an element of 268,435,455 bytes is the longest */
+    WANT(x509_element_encode(0x04, bytes, len - 7, OUT) == X509_ROOM && written == len - 1);
     written = 77;
+    WANT(x509_element_encode(0x04, bytes, len - 6, OUT) == X509_OVERLENGTH && x509_element_encode(0x04, bytes, len, OUT) == X509_OVERLENGTH && written == 77);
     WANT(x509_extension_encode(OID, 3, 0, bytes, len, OUT) == X509_OVERLENGTH);
     WANT(x509_subject_key_identifier_encode(bytes, len, OUT) == X509_OVERLENGTH);
     WANT(x509_authority_key_identifier_encode(1, bytes, len, NULL, 0, NULL, 0, OUT) == X509_OVERLENGTH);

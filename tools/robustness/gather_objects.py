@@ -1,5 +1,5 @@
 #!/usr/bin/env python3
-"""Gathers what may be certificates, CRLs and CSRs from files, folders and archives, each once, for `compare_gathered.py`.
+"""Gathers what may be certificates, CRLs and CSRs from files, folders and archives, each once, for `compare_objects.py`.
 
 Archives are .deb packages, tar archives, zip and jar files and compressed files, also one in another. In each file that is looked for: the whole file
 where it begins as a SEQUENCE does, PEM, base64 as it stands in XML, in LDIF and in the strings of sources, arrays of octets in C, octal as NSS has it,
@@ -14,7 +14,7 @@ Packages for it come by `apt-get download NAME` and `apt-get source --download-o
 NIST's PKITS, and sources of apache2, botan, bouncycastle, cfssl, certificate-transparency, curl, edk2, erlang, fwupd, gnupg2, gnutls28, golang-1.19,
 go-rootcerts, krb5, lasso (metadata of SAML), libtasn1, mbedtls, nodejs, nss, openjdk-17, opensc, openssl, oscrypto, php8.2, poco, postgresql-15, python3.11,
 python3-certifi, python-cryptography, python3-twisted, qtbase, ruby3.1, rustls, simplesamlphp, smallstep's certificates and cli, strongswan, webpki, wolfssl
-and xmlsec1. Then: compare_gathered.py crates/x509_show/out/x509_show FOLDER --linter crates/x509_linter/out/x509_linter --alone FILE
+and xmlsec1. Then: compare_objects.py crates/x509_show/out/x509_show FOLDER --linter crates/x509_linter/out/x509_linter --alone FILE
 """
 import argparse
 import base64

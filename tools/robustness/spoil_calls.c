@@ -674,6 +674,8 @@ static uint64_t any_number(asker *by, const char *name, octets first)
         return string_types[below(&by->state, sizeof string_types)];
     if (strcmp(name, "kind") == 0)
         return below(&by->state, 9);
+    if (strcmp(name, "identifier") == 0)
+        return below(&by->state, 256);
     if (strcmp(name, "uses") == 0 || strcmp(name, "reasons") == 0)
         return below(&by->state, 512);
     if (strcmp(name, "reason") == 0)

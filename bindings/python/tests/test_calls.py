@@ -294,5 +294,13 @@ class Calls(unittest.TestCase):
                     self.assertEqual(refused.exception.status, 5)
 
 
+class Elements(unittest.TestCase):
+    def test_length_octets(self) -> None:
+        """They are as few as there can be (X.690 8.1.3, 10.1)."""
+        for size, front in ((0, "0400"), (127, "047f"), (128, "048180"), (255, "0481ff"), (256, "04820100"), (65_536, "0483010000")):
+            with self.subTest(size):
+                self.assertEqual(fill("x509_element_encode", ctypes.c_uint32(0x04), bytes(size)), hexed(front) + bytes(size))
+
+
 if __name__ == "__main__":
     unittest.main()

@@ -94,6 +94,15 @@ class Refused(unittest.TestCase):
                 self.assertEqual((error.status, error.place), (3, None))
                 self.assertTrue(str(error).endswith(f": {cause}"), error)
 
+    def test_identifier_octets(self) -> None:
+        """Octets that no element begins with here: of no type, or of a tag whose number stands in further octets (X.690 8.1.2.4)."""
+        builder = x509.CertificateSigningRequestBuilder()
+        for tag in (0, 0x07, 0x10, 0x1F, 0x5F, 0x9F, 0xFF):
+            with self.subTest(tag):
+                error = self.refusal(lambda: builder.add_attribute(x509.AttributeOID.CHALLENGE_PASSWORD, b"a", tag))
+                self.assertEqual((error.status, error.place), (5, None))
+                self.assertTrue(str(error).endswith(": no element begins with that identifier octet"), error)
+
     def test_each_cause_is_of_a_call(self) -> None:
         """Each call that the package makes and for which the header lists X509_FAILED has its cause, but for those that aren't answered it there."""
         top = DATA.parents[1]

@@ -13,7 +13,7 @@ use crate::integer::{Integer, SerialNumber};
 use crate::name::Name;
 use crate::oid::{self, ObjectIdentifier};
 use crate::time::seconds;
-use crate::writing::{self, SEQUENCE, SET};
+use crate::writing::{self, SET};
 use std::collections::HashSet;
 use std::fmt;
 use std::time::SystemTime;
@@ -599,19 +599,18 @@ fn only<T: Default>(mut members: Members<'_, T>) -> Result<T, Error> {
 /// The DER of an attribute of a CSR with these values, of which each has to be one whole element.
 fn attribute(oid: ObjectIdentifier, values: &[&[u8]]) -> Result<Vec<u8>, Error> {
     for value in values {
-        only(ffi::ATTRIBUTE_VALUES.over(&writing::element(SET, value)))?;
+        only(ffi::ATTRIBUTE_VALUES.over(&build::element(SET, value)?))?;
     }
-    let mut values: Vec<Vec<u8>> = values.iter().map(|it| it.to_vec()).collect();
-    // the members of a SET OF stand in the order of their encodings (X.690 11.6)
-    values.sort();
-    let values = writing::elements(SET, values);
-    let oid = writing::identifier(&oid);
-    Ok(writing::elements(SEQUENCE, [oid, values]))
+    // no set of values is empty, or has a value twice (RFC 2986 4.1, X.690 11.6)
+    build::request_attribute(oid.as_bytes(), &values.concat()).map_err(|error| match error {
+        Error::Value | Error::SetDuplicate => Error::Malformed,
+        other => other,
+    })
 }
 
 /// The type of the attribute that the bytes are.
 fn attribute_type(attribute: &[u8]) -> Result<ObjectIdentifier, Error> {
-    let list = writing::element(writing::context_elements(0), attribute);
+    let list = build::element(writing::context_elements(0), attribute)?;
     let found = only(ffi::REQUEST_ATTRIBUTES.over(&list))?;
     // there is a value (RFC 2986 4.1)
     let mut values = ffi::ATTRIBUTE_VALUES.over(found.values.of(&list)?);

@@ -3,7 +3,7 @@ use crate::csr::AttributeValue;
 use crate::error::Error;
 use crate::ffi::{self, Span};
 use crate::integer::Integer;
-use crate::writing::{element, SET};
+use crate::writing::SET;
 
 /// The part of the bytes, where so many octets more stood in front of them.
 fn behind(span: Span, front: usize, data: &[u8]) -> Result<&[u8], Error> {
@@ -14,7 +14,7 @@ fn behind(span: Span, front: usize, data: &[u8]) -> Result<&[u8], Error> {
 
 /// The elements that stand one behind the other. The values of an attribute may be of any type, so the walk over them is one over any elements.
 fn elements(data: &[u8]) -> Result<Vec<AttributeValue<'_>>, Error> {
-    let within = element(SET, data);
+    let within = ffi::build::element(SET, data)?;
     let front = within.len().saturating_sub(data.len());
     let members = ffi::ATTRIBUTE_VALUES.over(&within);
     let found = members.map(|view| {

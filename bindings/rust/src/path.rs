@@ -9,7 +9,7 @@ use crate::name::NameRef;
 use crate::numbered::numbered;
 use crate::oid::{extension, purpose, ObjectIdentifier};
 use crate::time::seconds;
-use crate::writing::{elements, identifier, SEQUENCE};
+use crate::writing::SEQUENCE;
 use std::fmt;
 use std::time::SystemTime;
 
@@ -415,7 +415,7 @@ impl<'a> From<TrustAnchor<'a>> for Trusted<'a> {
 pub struct PathSettings {
     moment: SystemTime,
     name_constraints: Vec<u8>,
-    policies: Vec<u8>,
+    policies: Option<Vec<ObjectIdentifier>>,
     purposes: Option<Vec<ObjectIdentifier>>,
     key_usage: KeyUsage,
     flags: u64,
@@ -437,7 +437,7 @@ impl PathSettings {
         PathSettings {
             moment,
             name_constraints: Vec::new(),
-            policies: Vec::new(),
+            policies: None,
             purposes: None,
             key_usage: KeyUsage::default(),
             flags: 0,
@@ -453,8 +453,7 @@ impl PathSettings {
     /// That no policy is accepted but these (RFC 5280 6.1.1 (c)). A path may still be valid under none of them, unless
     /// [`require_explicit_policy`](PathSettings::require_explicit_policy) asks for one.
     pub fn policies(&mut self, accepted: &[ObjectIdentifier]) -> &mut PathSettings {
-        let information = |oid| elements(SEQUENCE, [identifier(oid)]);
-        self.policies = elements(SEQUENCE, accepted.iter().map(information));
+        self.policies = Some(accepted.to_vec());
         self
     }
 
@@ -542,6 +541,19 @@ impl PathSettings {
         Ok(asked)
     }
 
+    /// The DER of a CertificatePolicies of the policies that are accepted; no bytes where any are.
+    fn accepted(&self) -> Result<Vec<u8>, Error> {
+        let information = |oid: &ObjectIdentifier| ffi::build::policy(oid.as_bytes(), b"");
+        match &self.policies {
+            None => Ok(Vec::new()),
+            // no call for builders writes a list of none of them, or of one that is there twice
+            Some(accepted) => {
+                let members: Result<Vec<_>, _> = accepted.iter().map(information).collect();
+                ffi::build::element(SEQUENCE, &members?.concat())
+            }
+        }
+    }
+
     /// What a search answers under these settings.
     pub(crate) fn search(
         &self,
@@ -550,7 +562,7 @@ impl PathSettings {
     ) -> Result<ffi::Sought, Error> {
         search.next(
             &self.name_constraints,
-            &self.policies,
+            &self.accepted()?,
             &self.to_ffi()?,
             max_depth,
         )
@@ -640,8 +652,8 @@ pub(crate) fn validate_slices<'a>(
     verifier: &impl Verifier,
 ) -> Result<Validated<'a>, PathError> {
     let asked = settings.to_ffi()?;
-    let (constraints, accepted) = (&settings.name_constraints, &settings.policies);
-    let judged = ffi::path_validate(trusted.bytes(), &path, constraints, accepted, asked);
+    let (constraints, accepted) = (&settings.name_constraints, settings.accepted()?);
+    let judged = ffi::path_validate(trusted.bytes(), &path, constraints, &accepted, asked);
     let judged = match judged {
         Err(error) if error == ffi::NO_TRUST => Err(trusted.fault()?),
         judged => judged,

@@ -3,6 +3,7 @@
 ghost use Rattle.std.specs.Prelude.{◌≡◌, nat_eq, not};
 ghost use Rattle.x509_c_calls.specs.Described.{AreBasicConstraints, ArePolicyConstraints, DescribesNone, EncodesDescribed, IsAuthorityKeyIdentifierOf, IsCrlNumber, IsExtendedKeyUsage, IsInhibitAnyPolicy, IsKeyUsage, IsSubjectKeyIdentifier, RefusesAuthorityKeyIdentifier, RefusesPurposes};
 ghost use Rattle.x509_c_calls.specs.DescribedAttributes.{IsRequestAttributeOf, RefusesRequestAttribute};
+ghost use Rattle.x509_c_calls.specs.DescribedElements.{EncodesElement};
 ghost use Rattle.x509_c_calls.specs.DescribedMappings.{AreMappingsOf, RefusesMappings};
 ghost use Rattle.x509_c_calls.specs.DescribedNumbers.{AreNumbersOf, RefusesNumbers};
 ghost use Rattle.x509_c_calls.specs.DescribedParts.{AreNameConstraintsOf, EncodesList, IsAccessOf, IsMoment, IsNameOf, IsOtherNameOf, IsPeriodOf, IsReason, IsSubtreeOf, RefusesAccess, RefusesName, RefusesNameConstraints, RefusesOtherName};
@@ -20,10 +21,10 @@ use x509_base::GeneralizedTime;
 use x509_c_calls::{
     BasicConstraintsView, IssuingDistributionPointView, PolicyConstraintsView,
     PrivateKeyUsagePeriodView, access_encode, authority_key_identifier_encode, cps_uri_encode,
-    crl_number_encode, distribution_point_encode, encode, extended_key_usage_encode,
-    general_name_encode, issuing_distribution_point_encode, list_encode, mappings_encode,
-    name_constraints_encode, numbers_encode, other_name_encode, policies_encode, policy_encode,
-    policy_mapping_encode, policy_qualifier_encode, request_attribute_encode,
+    crl_number_encode, distribution_point_encode, element_encode, encode,
+    extended_key_usage_encode, general_name_encode, issuing_distribution_point_encode, list_encode,
+    mappings_encode, name_constraints_encode, numbers_encode, other_name_encode, policies_encode,
+    policy_encode, policy_mapping_encode, policy_qualifier_encode, request_attribute_encode,
     subject_key_identifier_encode, subtree_encode, timestamps_encode, user_notice_encode,
 };
 use x509_der::{Encode, Grammar, SequenceOf};
@@ -270,6 +271,20 @@ pub extern "C" fn x509_info_access_encode(
         room.old room.new written.old written.new status) result }
 {
     list_encode::<AccessDescription>(alloc, descriptions, room, written).code()
+}
+
+/// Puts the element with this identifier octet and this content at the front of the room.
+#[unsafe(no_mangle)]
+pub extern "C" fn x509_element_encode(
+    identifier: u32,
+    content: &[u8],
+    room: &mut [u8],
+    written: &mut usize,
+) -> i32
+    ensures { Tells (λ status. Fills (EncodesElement identifier content.now) room.old room.new written.old written.new status
+        × (status ≡ Refused Memory → ⊥)) result }
+{
+    element_encode(identifier, content, room, written).code()
 }
 
 /// Puts the encoding of the CPSuri with these octets at the front of the room.

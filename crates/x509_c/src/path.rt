@@ -65,7 +65,7 @@ pub extern "C" fn x509_path_validate(
     path_validate(alloc, anchor, &question, room, answer, &mut []).code()
 }
 
-/// The same under a name and a public key that are trusted.
+/// Validates a path under a name and a public key that are trusted.
 #[unsafe(no_mangle)]
 pub extern "C" fn x509_path_validate_under_key(
     alloc: Global,
@@ -95,7 +95,7 @@ pub extern "C" fn x509_path_validate_under_key(
     path_validate_under_key(alloc, name, key, &question, room, answer, &mut []).code()
 }
 
-/// The same under what a trust anchor gives that is trusted.
+/// Validates a path under what a trust anchor gives that is trusted.
 #[unsafe(no_mangle)]
 pub extern "C" fn x509_path_validate_under_anchor(
     alloc: Global,
@@ -153,7 +153,7 @@ pub extern "C" fn x509_path_validate_views(
     path_validate(alloc, anchor, &question, room, answer, certificates).code()
 }
 
-/// The same again, under a name and a public key that are trusted.
+/// Says what each certificate of a valid path holds, under a name and a public key that are trusted.
 #[unsafe(no_mangle)]
 pub extern "C" fn x509_path_validate_views_under_key(
     alloc: Global,
@@ -184,7 +184,7 @@ pub extern "C" fn x509_path_validate_views_under_key(
     path_validate_under_key(alloc, name, key, &question, room, answer, certificates).code()
 }
 
-/// The same again, under what a trust anchor gives that is trusted.
+/// Says what each certificate of a valid path holds, under what a trust anchor gives that is trusted.
 #[unsafe(no_mangle)]
 pub extern "C" fn x509_path_validate_views_under_anchor(
     alloc: Global,

@@ -64,4 +64,5 @@ pub mod DescribedLists
 pub mod DescribedNames
 pub mod DescribedOids
 pub mod DescribedNumbers
+pub mod DescribedElements
 pub mod DescribedTimestamps

@@ -70,6 +70,7 @@ pub mod DescribedPolicyLists
 pub mod DescribedMappings
 pub mod DescribedNumbers
 pub mod DescribedAttributes
+pub mod DescribedElements
 pub mod DescribedTimestamps
 pub mod Notices
 pub mod Points

@@ -132,6 +132,7 @@ pub use payloads::cps_uri_encode;
 pub use payloads::crl_number_encode;
 pub use payloads::decimal_text;
 pub use payloads::distribution_point_encode;
+pub use payloads::element_encode;
 pub use payloads::element_next;
 pub use payloads::encode;
 pub use payloads::extended_key_usage_encode;

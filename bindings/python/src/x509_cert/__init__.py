@@ -28,6 +28,8 @@ from .crl import (
     load_pem_x509_crl,
     load_pem_x509_crls,
 )
+from .crl_entry_extensions import CertificateIssuer, InvalidityDate
+from .directory_attributes import DirectoryAttribute, SubjectDirectoryAttributes
 from .extensions import (
     AccessDescription,
     AuthorityInformationAccess,
@@ -72,6 +74,7 @@ from .general_name import (
 from .key import AlgorithmIdentifier, KeyKind, PublicKey, SignatureKind
 from .linting import Finding, Severity, lint
 from .name import ASN1Type, Name, NameAttribute, RelativeDistinguishedName, escape_rfc4514_value
+from .null_extensions import OCSPNoCheck, PrecertPoison
 from .oid import (
     AttributeOID,
     AuthorityInformationAccessOID,
@@ -84,17 +87,6 @@ from .oid import (
     PublicKeyAlgorithmOID,
     SignatureAlgorithmOID,
     SubjectInformationAccessOID,
-)
-from .other_extensions import (
-    CertificateIssuer,
-    DirectoryAttribute,
-    InvalidityDate,
-    OCSPNoCheck,
-    PrecertPoison,
-    PrivateKeyUsagePeriod,
-    SubjectDirectoryAttributes,
-    TLSFeature,
-    TLSFeatureType,
 )
 from .path import PathFault, Verifier, check_path, working_key
 from .peer import email_address, server_name
@@ -109,6 +101,7 @@ from .policies import (
     PolicyQualifier,
     UserNotice,
 )
+from .private_key_usage_period import PrivateKeyUsagePeriod
 from .request import (
     AnchorKind,
     Attribute,
@@ -133,6 +126,7 @@ from .revocation import (
     path_revocation_statuses,
     revocation_status,
 )
+from .tls_features import TLSFeature, TLSFeatureType
 from .validation import ValidatedPath, validate_path
 
 __version__ = "0.1.0"

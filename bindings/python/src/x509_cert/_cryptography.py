@@ -6,7 +6,7 @@ import hashlib
 import importlib
 from typing import Any, Callable, Protocol, Union
 
-from ._given import octets
+from ._arguments import octets
 from .algorithms import (
     DSA,
     ECDSA,

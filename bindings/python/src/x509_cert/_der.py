@@ -1,6 +1,10 @@
-"""The elements of DER (X.690 8.1) that are written here, for what no call of the library encodes. Nothing here parses DER."""
+"""Identifier octets, and elements with them (X.690 8.1), for what no other call of the library encodes."""
 
 from __future__ import annotations
+
+import ctypes
+
+from ._library import fill
 
 INTEGER, BIT_STRING, OCTET_STRING, NULL, OBJECT_IDENTIFIER, SEQUENCE, SET = 2, 3, 4, 5, 6, 0x30, 0x31
 UTF8_STRING, IA5_STRING = 0x0C, 0x16
@@ -12,13 +16,8 @@ def context(number: int, of_elements: bool = False) -> int:
 
 
 def element(identifier: int, *parts: bytes) -> bytes:
-    """An element with these parts of its content one behind the other."""
-    content = b"".join(parts)
-    size = len(content)
-    if size < 128:
-        return bytes([identifier, size]) + content
-    digits = size.to_bytes((size.bit_length() + 7) // 8, "big")
-    return bytes([identifier, 0x80 | len(digits)]) + digits + content
+    """An element with these parts of its content one behind the other; an X509Error where none begins with the octet, or it is too long."""
+    return fill("x509_element_encode", ctypes.c_uint32(identifier), b"".join(parts))
 
 
 def integer(number: int, identifier: int = INTEGER) -> bytes:

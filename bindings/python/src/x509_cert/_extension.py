@@ -5,7 +5,7 @@ from __future__ import annotations
 import ctypes
 from typing import ClassVar, Generic, Iterator, Self, Sequence, TypeVar, overload
 
-from ._given import octets, whole
+from ._arguments import octets, whole
 from ._header import Span
 from ._pem import Encoding, encoded
 from .oid import ObjectIdentifier

@@ -714,6 +714,7 @@ CALLS: dict[str, list[Any]] = {
     "x509_issuing_distribution_point_encode": [
         c_int, POINTER(IssuingDistributionPointView), c_char_p, c_size_t, c_char_p, c_size_t, POINTER(c_uint8), c_size_t, POINTER(c_size_t)
     ],
+    "x509_element_encode": [c_int, c_uint32, c_char_p, c_size_t, POINTER(c_uint8), c_size_t, POINTER(c_size_t)],
     "x509_name_next": [c_int, c_char_p, c_size_t, POINTER(c_size_t), POINTER(Span)],
     "x509_relative_name_next": [c_int, c_char_p, c_size_t, POINTER(c_size_t), POINTER(AttributeView)],
     "x509_relative_name_under_next": [c_int, c_uint32, c_char_p, c_size_t, POINTER(c_size_t), POINTER(AttributeView)],

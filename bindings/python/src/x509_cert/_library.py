@@ -54,6 +54,7 @@ class X509Error(ValueError):
     VALUES = {
         **dict.fromkeys(("x509_server_name_view", "x509_certificate_matches_name"), "neither a DNS name nor an IP address"),
         **dict.fromkeys(("x509_email_address_view", "x509_certificate_matches_email"), "no e-mail address"),
+        "x509_element_encode": "no element begins with that identifier octet",
     }
 
     def __init__(self, call: str, status: int, hint: str = "", place: int | None = None) -> None:

@@ -4,6 +4,7 @@ from __future__ import annotations
 
 import datetime
 
+from ._der import integer
 from ._header import Span
 from ._library import view, walk
 
@@ -17,10 +18,9 @@ def moment(since: int) -> datetime.datetime:
 
 def serial_element(number: int) -> bytes:
     """The DER of an INTEGER of at most 21 octets, which serial numbers have; a ValueError where it has more."""
-    size = (number + (number < 0)).bit_length() // 8 + 1
-    if size > 21:
+    if (number + (number < 0)).bit_length() // 8 + 1 > 21:
         raise ValueError("a serial number has at most 21 octets")
-    return bytes([2, size]) + number.to_bytes(size, "big", signed=True)
+    return integer(number)
 
 
 def whole_number(element: bytes) -> int:

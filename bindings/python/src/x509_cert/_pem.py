@@ -6,7 +6,7 @@ import base64
 import binascii
 import enum
 
-from ._given import octets
+from ._arguments import octets
 from ._header import MALFORMED
 from ._library import X509Error
 

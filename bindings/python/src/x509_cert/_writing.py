@@ -7,9 +7,9 @@ import datetime
 import ipaddress
 from typing import Any, Iterable
 
+from ._arguments import octets, some, whole_seconds
 from ._der import OBJECT_IDENTIFIER, element
 from ._extension import natural_octets
-from ._given import octets, some, whole_seconds
 from ._header import (
     GENERAL_NAME_DIRECTORY,
     GENERAL_NAME_DNS,

@@ -18,10 +18,10 @@ import datetime
 from typing import Any, Iterable, TypeVar
 
 from . import _cryptography
+from ._arguments import instance, listed, no_backend, octets, whole, whole_seconds
 from ._cryptography import AnyAlgorithm, AnyPublicKey, AnySigner, PrivateKeyOfCryptography, algorithm_bytes, key_bytes
-from ._der import BIT_STRING, SEQUENCE, SET, UTF8_STRING, context, element
+from ._der import BIT_STRING, SEQUENCE, UTF8_STRING, context, element
 from ._extension import ExtensionType
-from ._given import instance, listed, no_backend, octets, whole, whole_seconds
 from ._header import RequestAttributeView
 from ._library import fill, walk
 from ._writing import identifier_of
@@ -447,8 +447,8 @@ class CertificateSigningRequestBuilder(_WithExtensions):
         content, octet = octets(value, "a value"), _below(tag.value if isinstance(tag, ASN1Type) else tag, 256, "tag")
         if octet == UTF8_STRING:
             content.decode("utf-8")
-        kind = identifier_of(instance(oid, ObjectIdentifier, "the type of an attribute"))
-        return self.add_attribute_bytes(element(SEQUENCE, kind, element(SET, element(octet, content))))
+        kind = instance(oid, ObjectIdentifier, "the type of an attribute")
+        return self.add_attribute_bytes(fill("x509_request_attribute_encode", kind.content, element(octet, content)))
 
     def add_attribute_bytes(self, attribute: bytes) -> CertificateSigningRequestBuilder:
         """With a further attribute, by its DER: of another type than the others, and than the one that asks for extensions, which the builder makes."""

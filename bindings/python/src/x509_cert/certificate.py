@@ -10,7 +10,7 @@ import importlib
 import secrets
 from typing import Any, NamedTuple, Sequence
 
-from ._given import der_of, instance, no_backend, octets
+from ._arguments import der_of, instance, no_backend, octets
 from ._header import ABSENT, FAULT, OK, RAW, RFC5280, CertificateView, PathCertificateView, PathFaultView, SignatureView, Span
 from ._keyed import Keyed
 from ._library import X509Error, fill, number, status_of, view

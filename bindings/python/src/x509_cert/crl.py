@@ -9,17 +9,17 @@ import itertools
 from typing import Iterator, overload
 
 from . import _cryptography
+from ._arguments import der_of, instance, no_backend, octets, whole, whole_seconds
 from ._cryptography import AnyPublicKey
 from ._extension import ExtensionType
-from ._given import der_of, instance, no_backend, octets, whole, whole_seconds
 from ._header import CrlEntryView, CrlView, SignatureView, Span
 from ._library import fill, find, indexed, view, walk
 from ._numbers import moment, serial_element, whole_number
 from ._pem import blocks, refuse_pem
 from ._signed import Signed
+from .crl_entry_extensions import CertificateIssuer
 from .extensions import CRLReason, DuplicateExtension, Extension, Extensions, ReasonFlags
 from .name import Name
-from .other_extensions import CertificateIssuer
 
 
 class RevokedCertificate:

@@ -10,10 +10,11 @@ import ipaddress
 from typing import TYPE_CHECKING, Generic, Iterable, Iterator, Sequence, TypeVar
 
 from . import _cryptography
+from ._arguments import instance, listed, octets, some, whole
 from ._cryptography import AnyPublicKey
-from ._der import integer
+from ._der import BIT_STRING, element, integer
 from ._extension import ExtensionType, ListExtension, _number, _part, natural_octets, optional_number
-from ._given import der_of, instance, listed, octets, some, whole
+from ._general_names import NamesExtension
 from ._header import (
     AccessView,
     AuthorityKeyIdentifierView,
@@ -30,21 +31,16 @@ from ._header import (
 from ._library import fill, number, view, walk
 from ._writing import general_name_der, general_names_der, names_joined
 from .algorithms import ECDSA, RSA, algorithm_of
+from .crl_entry_extensions import CertificateIssuer, InvalidityDate
+from .directory_attributes import SubjectDirectoryAttributes
 from .general_name import DNSName, GeneralName, GeneralNames, IPAddress, general_name
 from .key import PublicKey
 from .name import RelativeDistinguishedName
+from .null_extensions import OCSPNoCheck, PrecertPoison
 from .oid import ExtensionOID, ObjectIdentifier
-from .other_extensions import (
-    CertificateIssuer,
-    InvalidityDate,
-    OCSPNoCheck,
-    PrecertPoison,
-    PrivateKeyUsagePeriod,
-    SubjectDirectoryAttributes,
-    TLSFeature,
-    _Names,
-)
 from .policies import CertificatePolicies, InhibitAnyPolicy, PolicyConstraints, PolicyMappings
+from .private_key_usage_period import PrivateKeyUsagePeriod
+from .tls_features import TLSFeature
 
 if TYPE_CHECKING:
     from .certificate import Certificate
@@ -104,8 +100,8 @@ class KeyUsage(ExtensionType):
             raise ValueError("encipher_only and decipher_only are said of key_agreement")
         bits = sum(1 << bit for bit, is_set in enumerate(uses) if is_set)
         # no usage at all, which `cryptography` writes too, and RFC 5280 4.2.1.3 doesn't allow
-        none = bytes.fromhex("030100")
-        self._write(fill("x509_key_usage_encode", ctypes.c_uint32(bits)) if bits else none, bits=bits)
+        data = fill("x509_key_usage_encode", ctypes.c_uint32(bits)) if bits else element(BIT_STRING, b"\0")
+        self._write(data, bits=bits)
 
     def _read(self, data: bytes) -> None:
         super()._read(data)
@@ -162,7 +158,7 @@ class ExtendedKeyUsage(ListExtension[ObjectIdentifier]):
         return self.usages
 
 
-class _AlternativeNames(_Names):
+class _AlternativeNames(NamesExtension):
     def get_values_for_type(self, kind: type[GeneralName]) -> list[object]:
         """What the names of that kind hold."""
         return self.names.get_values_for_type(kind)

@@ -10,7 +10,7 @@ import heapq
 import itertools
 from typing import AbstractSet, Callable, Iterable, Union
 
-from ._given import instance, whole
+from ._arguments import instance, whole
 from ._header import ABSENT, FAULT, LIMIT, OK, BadLinkView, FoundPathView, Span
 from ._library import X509Error, status_of
 from .certificate import Certificate, certificate_of

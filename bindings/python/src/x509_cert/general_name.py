@@ -7,8 +7,8 @@ import ipaddress
 from email.utils import parseaddr
 from typing import Any, Iterable, Iterator, Self, Union, overload
 
+from ._arguments import instance, listed, octets
 from ._elements import text_of
-from ._given import instance, listed, octets
 from ._header import (
     GENERAL_NAME_DIRECTORY,
     GENERAL_NAME_DNS,

@@ -4,8 +4,8 @@ from __future__ import annotations
 
 import enum
 
+from ._arguments import octets
 from ._extension import _part
-from ._given import octets
 from ._header import AlgorithmView, KeyView, RsaKeyView
 from ._library import view
 from ._pem import Encoding, encoded

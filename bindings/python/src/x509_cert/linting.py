@@ -5,7 +5,7 @@ from __future__ import annotations
 import dataclasses
 import enum
 
-from ._given import der_of, named
+from ._arguments import der_of, named
 from ._header import FindingView, Span
 from ._library import fill, walk
 from .certificate import Certificate, certificate_of

@@ -14,8 +14,8 @@ import json
 from typing import Any, Union
 
 from . import _cryptography, merkle
+from ._arguments import instance, octets, whole
 from ._cryptography import AnyPublicKey
-from ._given import instance, octets, whole
 from ._header import LogLeafView, LogPrecertificateView, Span
 from ._library import fill, view, walk
 from .certificate import Certificate

@@ -5,7 +5,7 @@ from __future__ import annotations
 import ctypes
 from typing import Iterable
 
-from ._given import octets, whole
+from ._arguments import octets, whole
 from ._header import FAILED, OK
 from ._library import X509Error, fill, status_of
 

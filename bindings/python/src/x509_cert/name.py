@@ -6,7 +6,7 @@ import ctypes
 import enum
 from typing import Iterable, Iterator
 
-from ._given import der_of, instance, listed, octets
+from ._arguments import der_of, instance, listed, octets
 from ._header import MALFORMED, AttributeView, ElementView, Span
 from ._library import X509Error, fill, number, walk
 from ._pem import Encoding, encoded

@@ -2,7 +2,7 @@
 
 from __future__ import annotations
 
-from ._given import instance, octets
+from ._arguments import instance, octets
 from ._library import fill
 from ._texts import place_in_oid, read_text
 

@@ -6,7 +6,7 @@ import datetime
 from typing import Callable, Iterable
 
 from . import _cryptography
-from ._given import octets, seconds
+from ._arguments import octets, seconds
 from ._header import PATH_MOMENT, PATH_SIGNATURE, PathCertificateView
 from ._library import fill
 from .certificate import Certificate, certificate_of, path_fault

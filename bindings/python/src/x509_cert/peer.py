@@ -5,7 +5,7 @@ from __future__ import annotations
 import ipaddress
 from typing import Union
 
-from ._given import instance, named
+from ._arguments import instance, named
 from ._header import VALUE, EmailAddressView, ServerNameView
 from ._library import X509Error, view
 from .general_name import DNSName, IPAddress, RFC822Name

@@ -5,10 +5,10 @@ from __future__ import annotations
 import ctypes
 from typing import Iterable, Sequence
 
+from ._arguments import instance, listed, octets, some, whole_list
 from ._der import IA5_STRING
 from ._elements import only, text_of
 from ._extension import ExtensionType, ListExtension, _number, _part, number_of_32_bits, optional_number
-from ._given import instance, listed, octets, some, whole_list
 from ._header import PolicyConstraintsView, PolicyMappingView, PolicyQualifierView, PolicyView, Span, UserNoticeView
 from ._library import X509Error, fill, number, view, walk
 from ._numbers import natural_numbers

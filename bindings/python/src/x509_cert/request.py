@@ -5,10 +5,10 @@ from __future__ import annotations
 import enum
 from typing import Iterator
 
+from ._arguments import no_backend, octets
 from ._header import AnchorView, ElementView, PathControlsView, RequestAttributeView, RequestView, SignatureView, Span
 from ._library import fill, find, view, walk
 from ._extension import _part
-from ._given import no_backend, octets
 from ._keyed import Keyed
 from ._pem import Encoding, blocks, encoded, refuse_pem
 from ._signed import Signed

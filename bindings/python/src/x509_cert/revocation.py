@@ -9,7 +9,7 @@ import enum
 import itertools
 from typing import Callable, Iterable, Iterator
 
-from ._given import instance, listed, octets, seconds
+from ._arguments import instance, listed, octets, seconds
 from ._header import (
     MALFORMED,
     OVERLENGTH,

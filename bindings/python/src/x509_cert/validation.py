@@ -7,8 +7,8 @@ import dataclasses
 import datetime
 from typing import Iterable
 
+from ._arguments import der_of, instance, listed, octets, seconds, some
 from ._der import SEQUENCE, element
-from ._given import der_of, instance, listed, octets, seconds, some
 from ._header import (
     FAULT,
     OK,
@@ -22,8 +22,7 @@ from ._header import (
     PathCertificateView,
     PathSettingsView,
 )
-from ._library import X509Error, status_of
-from ._writing import identifier_of
+from ._library import X509Error, fill, status_of
 from .certificate import Certificate, certificate_of
 from .extensions import KeyUsage
 from .name import Name, name_of
@@ -179,7 +178,9 @@ def _accepted(given: Iterable[ObjectIdentifier] | None) -> bytes:
     """The DER of the CertificatePolicies of these policies; no bytes where any are accepted."""
     if given is None:
         return b""
-    return element(SEQUENCE, *(element(SEQUENCE, identifier_of(it)) for it in listed(given, ObjectIdentifier, "the policies")))
+    members = [fill("x509_policy_encode", it.content, b"") for it in listed(given, ObjectIdentifier, "the policies")]
+    # no call for builders writes a list of none of them, or of one that is there twice
+    return element(SEQUENCE, *members)
 
 
 def _trusted(anchor: Certificate | TrustAnchor | tuple[Name, bytes]) -> tuple[str, tuple[bytes, ...], bytes]:

@@ -12,7 +12,7 @@ import dataclasses
 import datetime
 from typing import Iterable
 
-from ._given import instance, listed, whole
+from ._arguments import instance, whole
 from .certificate import Certificate, certificate_of
 from .extensions import ExtensionNotFound, SubjectAlternativeName
 from .finding import NoPath, find_path

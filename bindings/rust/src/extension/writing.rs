@@ -1,4 +1,4 @@
-//! Values of extensions as DER, for builders: by the library's own calls, or written here. What is written is read back by the library, and has to be the
+//! Values of extensions as DER, for builders: by the library's own calls. What is written is read back by the library, and has to be the
 //! value, before it is given out. Values that RFC 5280 doesn't allow in their own extension are refused.
 use super::{
     AccessDescription, AuthorityInfoAccess, AuthorityKeyIdentifier, BaseCrlNumber,
@@ -15,7 +15,7 @@ use crate::ffi;
 use crate::general_name::GeneralName;
 use crate::oid::ObjectIdentifier;
 use crate::time::seconds;
-use crate::writing::{element, INTEGER, NULL, SET};
+use crate::writing::{INTEGER, NULL, SET};
 
 /// What builders can put into an extension.
 pub trait ToExtension {
@@ -96,8 +96,8 @@ written! {
     AuthorityKeyIdentifier<'_>, it if is_key_identifier(it) => {
         let issuer = it.authority_cert_issuer.as_deref();
         let issuer = issuer.map(general_names).transpose()?.unwrap_or_default();
-        let serial = it.authority_cert_serial_number.map(|number| element(INTEGER, number.as_bytes()));
-        made(ffi::build::authority_key_identifier(it.key_identifier, &issuer, &serial.unwrap_or_default()))?
+        let serial = it.authority_cert_serial_number.map(|number| made(ffi::build::element(INTEGER, number.as_bytes())));
+        made(ffi::build::authority_key_identifier(it.key_identifier, &issuer, &serial.transpose()?.unwrap_or_default()))?
     };
     SubjectAltName<'_>, it if are_names(&it.0) => general_names(&it.0)?;
     IssuerAltName<'_>, it if are_names(&it.0) => general_names(&it.0)?;
@@ -136,8 +136,8 @@ written! {
     };
     InvalidityDate, it => made(ffi::build::invalidity_date(seconds(it.0)?))?;
     SubjectDirectoryAttributes<'_>, it => made(ffi::build::subject_directory_attributes(&joined(&it.0, directory_attribute)?))?;
-    PrecertPoison, _it => element(NULL, b"");
-    OcspNoCheck, _it => element(NULL, b"");
+    PrecertPoison, _it => made(ffi::build::element(NULL, b""))?;
+    OcspNoCheck, _it => made(ffi::build::element(NULL, b""))?;
     TlsFeature, it if !it.0.is_empty() => made(ffi::build::numbers(&it.0))?;
 }
 

@@ -22,6 +22,11 @@ pub(crate) fn extension(oid: &[u8], critical: bool, value: &[u8]) -> Result<Vec<
     filled!(x509_extension_encode: [oid], (u32::from(critical)), [value])
 }
 
+/// An element of an identifier octet and a content, for what no other call encodes.
+pub(crate) fn element(identifier: u8, content: &[u8]) -> Result<Vec<u8>, Error> {
+    filled!(x509_element_encode: (u32::from(identifier)), [content])
+}
+
 /// A number that may be left out, as a call takes it: whether it is there, and what it is.
 fn told(number: Option<u32>) -> (u32, u32) {
     (u32::from(number.is_some()), number.unwrap_or(0))
@@ -357,4 +362,27 @@ pub(crate) fn crl(it: &CrlFields<'_>) -> Result<Vec<u8>, Error> {
 /// The DER of a signed part, an algorithm and the octets of a signature.
 pub(crate) fn assemble(part: &[u8], algorithm: &[u8], signature: &[u8]) -> Result<Vec<u8>, Error> {
     filled!(Error::Algorithm, x509_assemble: [part], [algorithm], [signature])
+}
+
+#[cfg(test)]
+mod tests {
+    use super::*;
+
+    #[test]
+    fn elements() {
+        let of = |len, header: &[u8]| {
+            let written = element(0x04, &vec![7; len]);
+            assert_eq!(written, Ok([header, &vec![7; len]].concat()), "{len}");
+        };
+        of(0, &[4, 0]);
+        of(127, &[4, 127]);
+        // more than one length octet (X.690 8.1.3.5, 10.1)
+        of(128, &[4, 0x81, 128]);
+        of(256, &[4, 0x82, 1, 0]);
+        of(65_536, &[4, 0x83, 1, 0, 0]);
+        // octets of no type, and of tags whose numbers stand in further octets (X.690 8.1.2.4)
+        for refused in [0, 0x07, 0x10, 0x1f, 0x5f, 0xff] {
+            assert_eq!(element(refused, b""), Err(Error::Value), "{refused}");
+        }
+    }
 }

@@ -1027,6 +1027,14 @@ extern "C" {
         room: usize,
         written: *mut usize,
     ) -> c_int;
+    pub(super) fn x509_element_encode(
+        identifier: u32,
+        content: *const u8,
+        len: usize,
+        out: *mut u8,
+        room: usize,
+        written: *mut usize,
+    ) -> c_int;
     pub(super) fn x509_name_next(
         name: *const u8,
         len: usize,

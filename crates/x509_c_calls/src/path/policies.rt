@@ -10,7 +10,7 @@ ghost use Rattle.x509_policy.specs.Views.{octets_of};
 
 use crate::read;
 use std::alloc::{AllocError, Global};
-use x509_der::{Any, Encode, Error, ErrorKind, Grammar, Tag};
+use x509_der::{Any, Error, ErrorKind, Grammar, Tag, to_counted_der};
 use x509_ext::pkix::CertificatePolicies;
 use x509_ext::pkix::certpolicy::PolicyInformation;
 
@@ -70,7 +70,7 @@ fn wrapped(alloc: Global, tag: Tag, content: Vec<u8>) -> Result<Vec<u8>, Error>
     ensures { MatchResult result (λ octets. octets.items ≡ element (octet_of tag) content.items)
         (λ e. (e.kind ≡ Memory) ⊎ ((e.kind ≡ Overlength) × (limit < length (element (octet_of tag) content.items)))) }
 {
-    Any::from_vec(tag, content)?.to_der(alloc)
+    to_counted_der(&Any::from_vec(tag, content)?, alloc)
 }
 
 /// The encoding of the PolicyInformation of a policy, without qualifiers.
