@@ -20,7 +20,7 @@ pub(crate) const SIGNED: &[u8] =
       \x03\x2A\x00\x30\x27\x02\x01\x00\x30\x00\x30\x0D\x30\x05\x06\x03\x2A\x03\x04\x03\x04\x00\x61\x62\x63\
       \xA0\x11\x30\x0F\x06\x09\x2A\x86\x48\x86\xF7\x0D\x01\x09\x0E\x31\x02\x30\x00";
 
-/// The same with no bits.
+/// That CSR with a signature of no bits.
 pub(crate) const UNSIGNED: &[u8] =
     b"\x30\x33\x30\x27\x02\x01\x00\x30\x00\x30\x0D\x30\x05\x06\x03\x2A\x03\x04\x03\x04\x00\x61\x62\x63\
       \xA0\x11\x30\x0F\x06\x09\x2A\x86\x48\x86\xF7\x0D\x01\x09\x0E\x31\x02\x30\x00\x30\x05\x06\x03\x2A\x03\x04\
@@ -45,7 +45,7 @@ pub(crate) fn builder(rt: &HostRuntime) -> Result<RequestBuilder> {
     RequestBuilder::new(rt.alloc(), Name::new(rt.alloc()))
 }
 
-/// The same, with the password and the extension.
+/// A builder of that CSR with the password and the extension.
 pub(crate) fn full(rt: &HostRuntime) -> Result<RequestBuilder> {
     let mut builder = builder(rt)?;
     add_password(rt, &mut builder)?;

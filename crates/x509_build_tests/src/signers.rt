@@ -33,7 +33,7 @@ pub(crate) const ABC: Echo = Echo {
     last: b'c',
 };
 
-/// The same with the key `abd`.
+/// The signer with the key `abd`, which refuses nothing.
 pub(crate) const ABD: Echo = Echo {
     refuses: Refused::Nothing,
     last: b'd',

@@ -76,7 +76,7 @@ fn fails_in_certificate(rt: &HostRuntime, bytes: &[u8]) -> bool {
     }
 }
 
-/// The same in one that is lent.
+/// Whether the look-up in the lent certificate is refused.
 fn fails_in_lent(rt: &HostRuntime, bytes: &[u8]) -> bool {
     match CertificateRef::<Rfc5280>::from_der(bytes) {
         Ok(lent) => is_failed(lent.get_extension::<SubjectKeyIdentifier>(rt.alloc())),
@@ -129,7 +129,7 @@ fn has_number(rt: &HostRuntime, bytes: &[u8], octet: Option<u8>) -> bool {
     }
 }
 
-/// The same of one that is lent.
+/// Whether the lent CRL has the number, or none.
 fn has_number_lent(rt: &HostRuntime, bytes: &[u8], octet: Option<u8>) -> bool {
     match CrlRef::<Rfc5280>::from_der(bytes) {
         Ok(lent) => is_answer(lent.get_extension::<CrlNumber>(rt.alloc()), octet),

@@ -39,7 +39,7 @@ fn ends(
     ended == status && writer.taken.as_slice() == text
 }
 
-/// The same where nothing goes wrong.
+/// Whether the program ends with the status and this output where nothing goes wrong.
 fn says(alloc: Global, arguments: &[&[u8]], bytes: &[u8], status: u8, text: &[u8]) -> bool {
     ends(alloc, arguments, bytes, Lapse::Never, status, text)
 }
@@ -143,7 +143,7 @@ const PEM: &[u8] = b"-----BEGIN CERTIFICATE-----\n\
       MAAwCjAFBgMqAwQDAQAwBQYDKgMEAwEA\n\
       -----END CERTIFICATE-----\n";
 
-/// The same in lines that end otherwise, with white space at their ends, and with lines around that say nothing.
+/// These texts in lines that end otherwise, with white space at their ends, and with lines around that say nothing.
 const PEM_IN_OTHER_LINES: &[u8] = b"an authority\r\n\r\n-----BEGIN X----- \t\r\n\r\n\
       MEYwOgIBATAFBgMqAwQwADAeFw0xMDAxMDEwODMwMDBaFw0zMDEyMzEwODMwMDBa \r\n\
       MAAwCjAFBgMqAwQDAQAwBQYDKgMEAwEA\r\n\

@@ -15,7 +15,7 @@ use x509_cert::crl::CertificateList;
 use x509_check::CrlRef;
 use x509_der::{Grammar, Tag};
 
-/// The same numbers, to be read alone.
+/// The numbers, to be read only.
 pub(crate) fn share<'i>(places: &'i mut [u32]) -> &'i [u32]
     ensures { result.now ≡ places.old }
 {

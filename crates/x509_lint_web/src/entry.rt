@@ -6,7 +6,7 @@ use x509_lint::Entry;
 /// How bad it is to break a rule, its name, its section and where in the certificate it is broken, and since when it is in force.
 #[derive(Clone, Copy, Debug)]
 pub struct WebEntry {
-    /// The same as of rules of RFC 5280; the standard is `TLS BR`.
+    /// What rules of RFC 5280 have too; the standard is `TLS BR`.
     pub entry: Entry,
 
     /// The day from which on the rule is in force; `None` where it was from the beginning.

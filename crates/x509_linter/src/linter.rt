@@ -482,7 +482,7 @@ fn clean_words(is_asked: bool) -> &'static str
     }
 }
 
-/// The same as a line.
+/// That nothing was found, or no rule applies, as a line.
 fn clean_line(is_asked: bool) -> &'static [u8]
     ensures { result.now ≡ as_line (grammar.clean_words is_asked) }
 {
@@ -493,7 +493,7 @@ fn clean_line(is_asked: bool) -> &'static [u8]
     }
 }
 
-/// The same as an object of JSON.
+/// That nothing was found, or no rule applies, as an object of JSON.
 fn clean_json(alloc: Global, is_asked: bool, heading: Heading<'_>) -> Result<String, AllocError>
     ensures { IfOk result (λ line. string_bytes line ≡ grammar.clean_json is_asked (heading_text heading.entry)) }
 {

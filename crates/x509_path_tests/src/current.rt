@@ -70,7 +70,7 @@ fn status(
     status_by(alloc, LEAF, crls, signers, IN_DATE, true)
 }
 
-/// The same where one key signs all.
+/// What the CRLs say of [`LEAF`] where one key signs all.
 fn under_one(alloc: Global, crls: [&[u8]; 3]) -> Option<RevocationStatus> {
     status(alloc, crls, [SIGNER; 3])
 }

@@ -278,7 +278,7 @@ fn ask_with<'x>(
     ask(alloc, leaf, &[TWIN, FIRST], under(NAME), &settings)
 }
 
-/// The same, where the first is of what is trusted and the second of CN=I.
+/// Asks for the leaf under two CRLs, the first of what is trusted and the second of CN=I.
 fn ask_by(
     alloc: Global,
     crls: [&[u8]; 2],

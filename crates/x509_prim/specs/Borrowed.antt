@@ -17,7 +17,7 @@ BorrowsText text_of wanted is_text tag content answer = MatchResult answer
 abbrev pub BorrowsTextFrom : {X : Type 0} → (X → List ℕ) → Tag → (List ℕ → Bool) → Any → Result X Error → Type 0
 BorrowsTextFrom text_of wanted is_text any answer = BorrowsText text_of wanted is_text any.tag any.value answer
 
--- The same of a text that is copied; more than 24 octets take memory, which may be refused.
+-- The element is copied as a text; more than 24 octets take memory, which may be refused.
 abbrev pub CopiesTextFrom : Tag → (List ℕ → Bool) → Any → Result (List ℕ) Error → Type 0
 CopiesTextFrom wanted is_text any answer = MatchResult answer
     (λ string. (octet_of any.tag ≡ octet_of wanted) × (is_text any.value ≡ true) × (string ≡ any.value))

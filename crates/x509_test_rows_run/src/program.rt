@@ -31,7 +31,7 @@ pub fn run<C: Codec, R: Source, W: Sink>(alloc: Global, reader: &mut R, writer: 
     }
 }
 
-/// The same, with answers held back at the end.
+/// Reads and answers each line; the last answers are still held back.
 fn read_and_answer<C: Codec, R: Source, W: Sink>(
     alloc: Global,
     reader: &mut R,

@@ -134,7 +134,7 @@ fn curve_bits(name: &str) -> Option<u128>
     }
 }
 
-/// The same of the curve that parameters name.
+/// How many bits the curve has that parameters name.
 #[tactic(auto, unfolding(crate::specs::Algorithms::parameters_bits))]
 fn parameters_bits(alloc: Global, parameters: &Option<Any>) -> Result<Option<u128>, AllocError>
     ensures { IfOk result (λ bits. bits ≡ algorithms.parameters_bits parameters.now) }

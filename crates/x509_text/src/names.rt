@@ -352,7 +352,7 @@ pub const NAMES: [Row; 83] = [
     ),
 ];
 
-/// The same rows, in one place for all who look a name up.
+/// The rows of [`NAMES`], in one place for all who look a name up.
 static TABLE: [Row; 83] = NAMES;
 
 /// Whether two OIDs have as many content octets, and the same last one.

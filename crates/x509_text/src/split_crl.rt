@@ -62,7 +62,7 @@ fn take_list<'a>(alloc: Global, rest: &mut &'a [u8]) -> Result<&'a [u8], Error>
     Ok(piece.content)
 }
 
-/// The same of a list that may be left out.
+/// Takes the list of entries, which may be left out.
 #[tactic(auto, unfolding(x509_der::specs::Frames::optional_at))]
 fn take_entries<'a>(alloc: Global, rest: &mut &'a [u8]) -> Result<&'a [u8], Error>
     ensures { GivesSoBefore (λ revoked octets. read_entries octets.now ≡ Ok (entries revoked)) result rest.new.now
@@ -100,7 +100,7 @@ fn split_part<'a>(alloc: Global, octets: &'a [u8]) -> Result<(TbsCertList<Raw>, 
     Ok((part, entries))
 }
 
-/// The same of the part that is signed at the front.
+/// Takes the part that is signed at the front.
 #[tactic(auto, unfolding(x509_der::specs::Frames::field_at))]
 fn take_part<'a>(alloc: Global, rest: &mut &'a [u8]) -> Result<(TbsCertList<Raw>, &'a [u8]), Error>
     ensures { GivesSoBefore (λ part split. IsSplitPart part split.0 split.1.now) result rest.new.now

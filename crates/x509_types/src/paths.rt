@@ -77,7 +77,7 @@ fn first_fault(
     }
 }
 
-/// The same under the subject and the key of a certificate.
+/// The first fault of the path under the subject and the key of a certificate.
 fn first_fault_under(
     alloc: Global,
     certificate: &Certificate,
@@ -106,7 +106,7 @@ fn read_certificate(alloc: Global, bytes: &[u8]) -> Result<Certificate, Error>
     }
 }
 
-/// The same under the subject and the key of the certificate that the bytes are.
+/// Checks the path under the subject and the key of the certificate that the bytes are.
 fn check_under(
     alloc: Global,
     accepted: Signatures,

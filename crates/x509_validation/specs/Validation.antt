@@ -316,7 +316,7 @@ Answers accepts inputs path (Err Empty) = path ≡ []
 Answers accepts inputs path (Err Initial) = (path ≢ []) × AreUnusable inputs
 Answers accepts inputs path (Err (At place reason)) = (AreUnusable inputs → ⊥) × IsFirstFault accepts inputs path place reason
 
--- The same where nothing is lent that can be read: of a path that isn't empty it is Initial, and nothing else.
+-- What is answered where nothing is lent that can be read: of a path that isn't empty it is Initial, and nothing else.
 abbrev pub AnswersUnreadable : List (List ℕ) → Result Validated ValidationFault → Type 0
 AnswersUnreadable [] result = result ≡ Err Empty
 AnswersUnreadable (input ∷ inputs) result = result ≡ Err Initial

@@ -42,7 +42,7 @@ pub fn take(tag: u8, bytes: &[u8]) -> Result<(&[u8], &[u8]), Error>
     Ok((&bytes[..bytes.len() - piece.rest.len()], piece.rest))
 }
 
-/// The same of an element that may be absent: it is there where the next identifier octet is that one.
+/// Splits off an element that may be absent: it is there where the next identifier octet is that one.
 ///
 /// # Errors
 ///
@@ -80,7 +80,7 @@ fn take_inside(n: u8, tag: u8, bytes: &[u8]) -> Result<(&[u8], &[u8]), Error>
     Ok((piece.content, piece.rest))
 }
 
-/// The same of one that may be absent; n is 0 to 30.
+/// Splits off an element under an explicit tag \[n\] that may be absent; n is 0 to 30.
 ///
 /// # Errors
 ///

@@ -30,7 +30,7 @@ impl TextRef<'_> {
         }
     }
 
-    /// The same text: owned where this one is, else borrowed from where it stands.
+    /// A copy of the text: owned where this one is, else borrowed from where it stands.
     ///
     /// # Errors
     ///
