@@ -2,8 +2,9 @@
 """Writes what follows from a type: of its struct, and of its grammar line in `specs`, the impls of its traits and the definitions that repeat its fields.
 
 `derive.py CRATE/src/FILE.rt [TYPE]` does so for the types that the file declares, or for one of them, wherever these stand. Impls that are missing come into
-that file, which for a check is one of x509_check. `derive.py --check` looks in the crates of types whether each of them is what would be written, or is named
-in tools/data/odd_glue.txt, which says why it isn't.
+that file, which for a check is one of x509_check. Behind `by hand` it says what it leaves: what is odd, and values that are made without a field.
+
+`derive.py --check` looks in the crates of types whether each of them is what would be written, or is named in tools/data/odd_glue.txt, which says why it isn't.
 """
 import argparse
 import collections
@@ -125,6 +126,38 @@ def check():
     return int(bool(faults) or not found)
 
 
+# ---- what makes values
+
+
+def braced(text, at):
+    """What stands in the braces that open at a place of a text."""
+    depth = 0
+    for end in range(at, len(text)):
+        depth += (text[end] == "{") - (text[end] == "}")
+        if not depth:
+            return text[at + 1 : end]
+    return ""
+
+
+def lacking(of):
+    """Where a value of a struct is made without some of its fields, in code, clauses or specs, or taken apart so: the file, the line and these fields."""
+    names = [field.name for field in of.fields]
+    known = {frozenset(field.name for field in it.fields) for crate in OF_TYPES for it in declared.types(crate)}
+    for file in sorted(it for ending in ("rt", "antt") for it in CRATES.glob(f"*/[sp]*/**/*.{ending}")):
+        text = "\n".join(declared.lines_of(file))
+        for made in [*re.finditer(rf"{of.name} (?={{)", text), *re.finditer(rf"record (?={{\s*(?:{'|'.join(names)}) =)", text)]:
+            if re.search(r"(?:\w|struct |impl |for |-> )$", text[max(made.start() - 8, 0) : made.start()]):
+                continue
+            inner = braced(text, made.end())
+            flat = re.sub(r"\{.*?\}|\([^()]*\)", "", inner, flags=re.S)
+            is_record = made[0] == "record "
+            has = set(re.findall(r"(?:^|;)\s*(\w+) =" if is_record else r"(?:^|,)\s*(\w+)", flat))
+            gone = [name for name in names if name not in has]
+            is_other = is_record and (frozenset(has) in known or not has < set(names) or len(gone) >= len(has))
+            if gone and ".." not in inner and not is_other:
+                yield file, text.count("\n", 0, made.start()) + 1, gone
+
+
 # ---- written
 
 
@@ -147,9 +180,16 @@ def write(file, name):
         for it in sorted(reversed(parts), key=lambda it: it.begin, reverse=True):
             lines[it.begin : it.end] = it.new.split("\n")
         text, old, new = "\n".join(lines), "\n".join(it.old for it in parts), "\n".join(it.new for it in parts)
-        text = with_imports(changed, text, old, new) if changed.suffix == ".rt" else with_uses(changed, text, new)
+        bare = "\n".join(it.new for it in parts if it.trait in ("type", "law"))
+        text = with_imports(changed, text, old, new) if changed.suffix == ".rt" else with_uses(changed, text, new, bare)
         changed.write_text(text, encoding="utf-8")
         print(f"written: crates/{changed.relative_to(CRATES)}")
+    for cached in (declared.lines_of, declared.types):
+        cached.cache_clear()
+    for it in types:
+        if it.word == "struct" and not it.is_tuple:
+            for at, line, gone in lacking(it):
+                print(f"by hand: {at.relative_to(CRATES)}:{line}: a value of {it.name} without {', '.join(gone)}")
     if not types:
         print(f"failed: {file} declares no type" + (f", and none is called {name}" if name else ""))
     return int(not types)

@@ -5,12 +5,14 @@ from common import declared
 from common.declared import CRATES
 from common.layout import imported
 from common.rattle import passed_on
-from derived_specs import known_names
+from derived_specs import home, known_names
 
 # crates that pass on all names themselves, and not by modules
 FLAT = ("x509_der", "x509_prim", "x509_base")
 # the traits of methods that derived code calls without naming the traits
 OF_TRAITS = {"put_part": "PutPart", "cmp_part": "CmpPart", "der_cmp": "DerOrd"}
+# the words of definitions that are no names
+WORDS = {"abbrev", "depth", "pub", "search", "unfoldable", "unfolding"}
 
 
 def words_of(text):
@@ -57,13 +59,14 @@ def with_line(text, line):
     return text[:at] + line + text[at:]
 
 
-def with_uses(file, text, new):
-    """The text of a file of specs that uses what derived definitions name of equality."""
-    for name in sorted(words_of(new) & set(known_names())):
-        module = known_names()[name]
+def with_uses(file, text, new, bare):
+    """The text of a file of specs that uses what derived definitions name: of those in `bare`, which have no fields, all; of the others what is of equality."""
+    needed = {name: known_names()[name] for name in words_of(new) & set(known_names())}
+    needed |= {name: module for name in words_of(bare) - WORDS if (module := home(name, file))}
+    for name, module in sorted(needed.items()):
         line = re.search(rf"^use {re.escape(module)}\.\{{(.*)\}}$", text, re.M)
-        others = "\n".join(re.findall(r"^(?:use|(?:abbrev )?(?:pub )?\w+ :) .*", text, re.M))
-        if name in words_of(others):
+        others = re.findall(r"^use \S+?(\.\{.*\}| as \w+)$|^(?:abbrev |unfoldable )?(?:pub )?(\w+) :", text, re.M)
+        if name in words_of(" ".join(used + own for used, own in others)):
             continue
         if line:
             text = text.replace(line[0], f"use {module}.{{{line[1]}, {name}}}")

@@ -1,7 +1,9 @@
-"""The definitions of `specs` that repeat the fields of a type: its contents, its order and its equality, and the types of its grammar line and of its order.
+"""The definitions of `specs` that repeat the fields of a type: its contents, its order and its equality, the search for its law, and the
+types of its grammar line and of its order.
 
 What doesn't follow from the fields stays as it is: which letter stands for a value, and where a line is broken.
 """
+import collections
 import dataclasses
 import functools
 import re
@@ -170,6 +172,63 @@ def typed(of):
         yield it, re.sub(r"(Part|PartOrder) .*$", lambda found: f"{found[1]} {whole}", it.text, count=1, flags=re.M)
 
 
+# ---- laws
+
+
+@functools.cache
+def brought(file):
+    """The modules of the names that a file of specs uses or defines."""
+    used = re.findall(r"^use (\S+)\.\{(.*)\}$", "\n".join(declared.lines_of(file)), re.M)
+    found = {name: module for module, names in used for name in re.findall(r"(?<!enum as )\b\w+", names)}
+    return found | {it.name: it.module for it in declared.definitions(file.parts[-3]) if it.file == file}
+
+
+@functools.cache
+def homes():
+    """The modules of specs that others can use a name from: those that define it, and those from which files use it."""
+    found = collections.defaultdict(set)
+    for crate in OF_TYPES:
+        for it in declared.definitions(crate):
+            if re.match(r"(?:\w+ )?pub ", it.text):
+                found[it.name].add(it.module)
+        for file in {it.file for it in declared.definitions(crate)}:
+            own = f"Rattle.{crate}.specs.{file.stem}"
+            for name, module in brought(file).items():
+                if ".specs." in module and module != own:
+                    found[name].add(module)
+    return found
+
+
+def home(name, file):
+    """The module of a name in a file of specs: the one from which it uses it, or which it is, else the only one; or an empty text."""
+    modules = homes().get(name, ())
+    return brought(file).get(name) or (next(iter(modules)) if len(modules) == 1 else "")
+
+
+@functools.cache
+def of_all_frames():
+    """The modules whose laws each search for a law of fields goes over."""
+    return frozenset(brought(declared.CRATES / "x509_der" / "specs" / "PartRules.antt").values())
+
+
+def law_of(form, file):
+    """The law of a form that a file of specs names, or of the one that it is short for; none where each search goes over it, or where it is no form."""
+    if module := home(f"{form}_lawful", file):
+        return None if module in of_all_frames() else f"{form}_lawful"
+    short = next((it for crate in OF_TYPES for it in declared.definitions(crate) if it.name == form and home(form, file).endswith(f".{it.file.stem}")), None)
+    return short and re.fullmatch(r"\w+", short.body) and law_of(short.body, short.file)
+
+
+def law(of):
+    """The definition that finds the law of a sequence by search, with its text as it would be: over the laws of the forms that the grammar line names."""
+    grammar = grammar_of(of)
+    for it in declared.definitions(of.crate):
+        if it.name == f"{grammar.name}_lawful" and (said := re.match(r"search \(part_rules((?:, \w+)*)\) depth \d+$", it.body)):
+            laws = list(dict.fromkeys(filter(None, (law_of(form, it.file) for form in re.findall(r"[^\W\d]\w*", grammar.line.body)))))
+            is_same = set(laws) == set(said[1].split(", ")[1:])
+            yield it, it.text if is_same else it.text.replace(f"part_rules{said[1]}", ", ".join(["part_rules", *laws]))
+
+
 # ---- equality
 
 
@@ -214,7 +273,7 @@ def known_names():
     for crate in OF_TYPES:
         for it in declared.definitions(crate):
             if it.name in names or it.file.stem == "Exact" and it.name.startswith("exact_"):
-                found.setdefault(it.name, f"Rattle.{crate}.specs.{it.file.stem}")
+                found.setdefault(it.name, it.module)
     return found
 
 
@@ -293,6 +352,7 @@ def derived(crate):
     for of in declared.types(crate):
         if grammar_of(of):
             yield from ((it, "type", of, text) for it, text in typed(of))
+            yield from ((it, "law", of, text) for it, text in law(of))
     for it in declared.definitions(crate):
         if found := derivation(it):
             trait, of, make = found

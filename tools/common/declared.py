@@ -142,6 +142,11 @@ class Definition:
         return self.file.parts[-3]
 
     @property
+    def module(self):
+        """Where specs use it from."""
+        return f"Rattle.{self.crate}.specs.{self.file.stem}"
+
+    @property
     def where(self):
         """As an attribute of code names it, in another crate."""
         return f"{self.crate}::{self.inside.partition('::')[2]}"

@@ -18,6 +18,9 @@ POINT, POINT_SPECS = "x509_ext/src/pkix/issuing_distribution_point.rt", "x509_ex
 PLACE, PLACE_SPECS = "x509_ext/src/pkix/name/distribution_point_name.rt", "x509_ext/specs/DistributionPointName.antt"
 PLACE_CHECK, PLACE_EQUALITY = "x509_check/src/general_name.rt", "x509_ext/specs/GeneralNameEquality.antt"
 NAMES, ODD = "x509_ext/src/pkix/name_constraints.rt", "../tools/data/odd_glue.txt"
+PERIOD, PERIOD_SPECS = "x509_ext/src/pkix/private_key_usage_period.rt", "x509_ext/specs/PrivateKeyUsagePeriod.antt"
+ISSUER, ISSUER_SPECS = "x509_ext/src/pkix/authority_key_identifier.rt", "x509_ext/specs/AuthorityKeyIdentifier.antt"
+KEY_CHECK, KEY_EQUALITY = "x509_check/src/payload.rt", "x509_ext/specs/KeyEquality.antt"
 POINT_CHECK, POINT_EQUALITY = "x509_check/src/constraint.rt", "x509_ext/specs/RevocationEquality.antt"
 # a field more of a type: in its struct, in the ASN.1 of its docs, and in the comment and the grammar line of its specs
 PROBE_FIELD = (
@@ -31,6 +34,24 @@ POINT_FIELD = (
     (POINT, "BOOLEAN DEFAULT FALSE }", "BOOLEAN DEFAULT FALSE,\n///     more                        [6] EXPLICIT BIT STRING OPTIONAL }"),
     (POINT_SPECS, "[5]BOOLEAN=FALSE (", "[5]BOOLEAN=FALSE, more: {6}BIT STRING? ("),
     (POINT_SPECS, "⊗ said_or_not 5))\n", "⊗ (said_or_not 5 ⊗ optional (explicit 6 bit_string))))\n"),
+)
+# of a type that took no memory, whose form the specs don't use yet
+PERIOD_FIELD = (
+    (PERIOD, "_after: Option<GeneralizedTime>,\n}", "_after: Option<GeneralizedTime>,\n\n    /// More.\n    pub more: Option<OctetString>,\n}"),
+    (PERIOD, "[1] IMPLICIT GeneralizedTime OPTIONAL }", "[1] IMPLICIT GeneralizedTime OPTIONAL,\n///     more       [2] IMPLICIT OCTET STRING OPTIONAL }"),
+    (PERIOD_SPECS, "[1]GeneralizedTime? (", "[1]GeneralizedTime?, more: [2]OCTET STRING? ("),
+    (PERIOD_SPECS, "⊗ optional (implicit 1 generalized_time)\n", "⊗ (optional (implicit 1 generalized_time) ⊗ optional (implicit 2 octet_string))\n"),
+)
+# of a type that is made in two further places
+ISSUER_FIELD = (
+    (ISSUER, "_number: Option<SerialNumber>,\n}", "_number: Option<SerialNumber>,\n\n    /// More.\n    pub more: Option<OctetString>,\n}"),
+    (ISSUER, "SerialNumber OPTIONAL }", "SerialNumber OPTIONAL,\n///     more                       [3] IMPLICIT OCTET STRING OPTIONAL }"),
+    (ISSUER_SPECS, "under Rfc5280 (RFC", "under Rfc5280, more: [3]OCTET STRING? (RFC"),
+    (
+        ISSUER_SPECS,
+        "optional (implicit 2 (serial_number rfc5280_serial_number)))\n",
+        "(optional (implicit 2 (serial_number rfc5280_serial_number)) ⊗ optional (implicit 3 octet_string)))\n",
+    ),
 )
 PROBE_FIELD_GONE = (
     (PROBE, "    /// A field with a default.\n    pub c: bool,\n\n", ""),
@@ -106,6 +127,48 @@ WRITTEN = (
         },
     ),
     (
+        PERIOD_FIELD,
+        PERIOD,
+        {
+            PERIOD: (
+                "impl TryClone for PrivateKeyUsagePeriod {\n    fn try_clone(&self, alloc: Global) -> Result<PrivateKeyUsagePeriod, Error> {\n",
+                "            not_after: self.not_after,\n            more: self.more.try_clone(alloc)?,\n",
+                "private_key_usage_period_contents };\n\n    ghost IDENTIFIER",
+                "        let more = read_optional_implicit::<OctetString>(alloc, 2, &mut rest)?;\n        end(rest)?;\n",
+                "        option_has_spelling(&self.more);\n",
+                "use x509_prim::OctetString;\n",
+            ),
+            PERIOD_SPECS: (
+                "Part (Option CivilTime × (Option CivilTime × Option (List ℕ)))\n",
+                "search (part_rules, generalized_time_lawful, octet_string_lawful) depth 20\n",
+                "PartOrder (Option CivilTime × (Option CivilTime × Option (List ℕ)))\n",
+                "use Rattle.std.specs.Prelude.{Option, refl, List, ℕ}\n",
+                "use Rattle.x509_prim.specs.OctetString.{octet_string, octet_string_lawful}\n",
+            ),
+            KEY_CHECK: ("        check_optional_implicit::<OctetString>(2, &mut rest)?;\n        end(rest)\n",),
+            KEY_EQUALITY: ("(exact_both (exact_option exact_date_time) (exact_both (exact_option exact_date_time) (exact_option exact_octets)))\n",),
+        },
+    ),
+    (
+        ISSUER_FIELD,
+        ISSUER,
+        {
+            ISSUER: (
+                "            authority_cert_serial_number: _,\n            more: _,\n        } = self;\n",
+                "        let more = read_optional_implicit::<OctetString>(alloc, 3, &mut rest)?;\n        end(rest)?;\n",
+                "                (\n"
+                "                    optional_implicit(2, &self.authority_cert_serial_number),\n"
+                "                    optional_implicit(3, &self.more),\n"
+                "                ),\n",
+            ),
+            ISSUER_SPECS: (
+                "Part (Option (List ℕ) × (Option (List GeneralName) × (Option (List ℕ) × Option (List ℕ))))\n",
+                "search (part_rules, octet_string_lawful, general_names_lawful, serial_number_lawful) depth 20\n",
+            ),
+            KEY_CHECK: ("        check_optional_implicit::<OctetString>(3, &mut rest)?;\n        end(rest)\n",),
+        },
+    ),
+    (
         PLACE_CASE,
         PLACE,
         {
@@ -124,6 +187,8 @@ WRITTEN = (
         },
     ),
 )
+# what is said of each value that is made by hand without a field, and how many there are: of the file, two values, each in code and in a clause
+MADE = {ISSUER: (": a value of AuthorityKeyIdentifier without more\n", 4)}
 # what is changed so that a type and its grammar don't say the same, and what `--check` says
 UNLIKE = (
     (PROBE_FIELD[:3], "Probe has 5 fields, and x509_test_types::specs::Probe::probe_fields 4"),
@@ -191,7 +256,9 @@ def faults(folder):
     crates = folder / "crates"
     for changes, file, wanted in WRITTEN:
         with Copy(folder, changes):
-            run(folder, file)
+            said, count = MADE.get(file, (": a value of ", 0))
+            if (found := run(folder, file).stdout).count(said) != count:
+                yield f"{file}: not {count} times {said!r} in {found}"
             for name, texts in wanted.items():
                 text = (crates / name).read_text(encoding="utf-8")
                 yield from (f"{name} has no {it!r}" for it in texts if it not in text)
