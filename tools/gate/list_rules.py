@@ -1,16 +1,19 @@
 #!/usr/bin/env python3
 """Makes docs/RULES.md: what RFC 5280 says MUST or SHOULD hold of certificates and CRLs, RFC 2986 and RFC 2985 of CSRs, and RFC 5914 of trust anchors, by
-section, with the rule of x509_lint that tells where it is broken; of what none tells how many sentences there are, and why.
+section, with the rule of x509_lint that tells where it is broken, and lints of zlint beside it; of what none tells how many sentences there are, and why.
 
-The sentences and their answers stand in tools/data/rfc5280.txt; the rules, and how bad it is to break each, are taken from the code,
-crates/x509_lint/src/rule. With `--check` it fails where a rule of the code stands in no line of the sentences, where its docs don't say its section,
-where a line names a rule that isn't there, where a sentence has no answer, and where docs/RULES.md is another text.
+The sentences and their answers stand in tools/data/rfc5280.txt, and the lints in tools/data/zlint.txt; the rules, and how bad it is to break each, are taken
+from the code, crates/x509_lint/src/rule. With `--check` it fails where a rule of the code stands in no line of the sentences, where its docs don't say its
+section, where a line names a rule that isn't there, where a sentence has no answer, where a lint has no name of one or stands beside several rules without a
+word why, and where docs/RULES.md is another text.
 """
 import argparse
 import collections
 import pathlib
 import re
 import sys
+
+import zlint_names
 
 TOP = pathlib.Path(__file__).resolve().parents[2]
 SENTENCES = TOP / "tools/data/rfc5280.txt"
@@ -27,14 +30,15 @@ REASONS = {
     "application": "says what applications do, and nothing about the object",
     "open": "a rule could stand, and there is none yet",
 }
-HEAD = """# What RFC 5280 says, and the rules of `x509_lint`
+HEAD = f"""# What RFC 5280 says, and the rules of `x509_lint`
 
-`tools/gate/list_rules.py` makes this page of `tools/data/rfc5280.txt` and of the rules in `crates/x509_lint/src/rule`. Each line has what a section of RFC
-5280, or of another standard that is named, says MUST or SHOULD hold, in our own words, and the rule that tells where it is broken. GRAMMAR stands for a size or
-a type of the ASN.1. To break a rule is an error behind MUST, MUST NOT and GRAMMAR, and a warning behind SHOULD and SHOULD NOT, where no other word stands
-behind it. Whether one is broken is a definition of `crates/x509_lint/specs`, in the file of its group, and `lint_certificate`, `lint_crl`, `lint_request` and
-`lint_anchor` are proved to find it exactly there. Sentences without a rule stand in `tools/data/rfc5280.txt`, each with why there is none; how many there are
-of each kind is in brackets:
+{zlint_names.HEAD}
+`tools/gate/list_rules.py` makes this page of `tools/data/rfc5280.txt`, `tools/data/zlint.txt` and the rules in `crates/x509_lint/src/rule`. Each line has what
+a section of RFC 5280, or of another standard that is named, says MUST or SHOULD hold, in our own words, and the rule that tells where it is broken. GRAMMAR
+stands for a size or a type of the ASN.1. To break a rule is an error behind MUST, MUST NOT and GRAMMAR, and a warning behind SHOULD and SHOULD NOT, where no
+other word stands behind it. Whether one is broken is a definition of `crates/x509_lint/specs`, in the file of its group, and `lint_certificate`, `lint_crl`,
+`lint_request` and `lint_anchor` are proved to find it exactly there. Sentences without a rule stand in `tools/data/rfc5280.txt`, each with why there is none;
+how many there are of each kind is in brackets:
 
 """
 
@@ -100,16 +104,17 @@ def sections():
     return found
 
 
-def told_of(name, usual, rules):
-    """A rule, and how bad it is to break it where that isn't what is usual there."""
+def told_of(name, usual, rules, lints):
+    """A rule, how bad it is to break it where that isn't what is usual there, and the lints beside it."""
     severity = rules[name][0] if name in rules else usual
-    return f"`{name.rpartition(':')[2]}`" + (f" ({severity})" if severity != usual else "")
+    more = "; ".join(filter(None, ["" if severity == usual else severity, lints.of(name)]))
+    return f"`{name.rpartition(':')[2]}`" + (f" ({more})" if more else "")
 
 
-def answer(sentence, rules):
+def answer(sentence, rules, lints):
     """What is said behind a sentence: its rules, and why there are none or not all."""
     usual = "warning" if sentence["text"].startswith("SHOULD") else "error"
-    told = [told_of(name, usual, rules) for name in sentence["rules"]]
+    told = [told_of(name, usual, rules, lints) for name in sentence["rules"]]
     why = [f"*{kind}*{': ' + more if more else ''}" for kind, more in sentence["reasons"]]
     return "; ".join(filter(None, [", ".join(told), "; ".join(why)]))
 
@@ -119,21 +124,21 @@ def is_listed(sentence):
     return bool(sentence["rules"]) or any(kind == "open" for kind, _ in sentence["reasons"])
 
 
-def page(rules, all_sections):
+def page(rules, all_sections, lints):
     sentences = [it for _, _, sentences in all_sections for it in sentences]
     others = collections.Counter(it["reasons"][0][0] for it in sentences if not is_listed(it) and it["reasons"])
     ruled = sum(bool(it["rules"]) for it in sentences)
     still = sum(any(kind == "open" for kind, _ in it["reasons"]) for it in sentences)
     lines = [HEAD, *(f"- *{kind}*{f' ({others[kind]})' if others[kind] else ''}: {why}.\n" for kind, why in REASONS.items())]
     told = f"{ruled} of them with a rule, {still} for which one could stand and doesn't yet or not wholly"
-    lines.append(f"\n{len(sentences)} sentences, {told}; {len(rules)} rules.\n")
+    lines.append(f"\n{len(sentences)} sentences, {told}; {len(rules)} rules, {len(lints.beside)} of them with lints of zlint.\n")
     for number, title, of_section in all_sections:
         listed = [it for it in of_section if is_listed(it)]
         lines.append(f"\n## {number} {title}\n\n" if listed else "")
         for it in listed:
             level = next(level for level in LEVELS if it["text"].startswith(level))
-            lines.append(f"- **{level}** {it['text'][len(level) + 1:]}. {answer(it, rules)}\n")
-    return "".join(lines)
+            lines.append(f"- **{level}** {it['text'][len(level) + 1:]}. {answer(it, rules, lints)}\n")
+    return "".join(lines) + lints.end()
 
 
 def faults(rules, all_sections):
@@ -147,8 +152,8 @@ def faults(rules, all_sections):
 
 
 def made():
-    rules, all_sections = Rules(), sections()
-    return page(rules, all_sections), len(rules), list(faults(rules, all_sections))
+    rules, all_sections, lints = Rules(), sections(), zlint_names.Lints("x509_lint")
+    return page(rules, all_sections, lints), len(rules), [*faults(rules, all_sections), *lints.faults(rules)]
 
 
 def written(description, path, what, make):

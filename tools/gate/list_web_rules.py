@@ -1,23 +1,26 @@
 #!/usr/bin/env python3
-"""Makes docs/WEB_RULES.md: the rules of x509_lint_web, by group in the order in which they are asked, of each what breaks it, its section, how bad it is and
-since when it is in force.
+"""Makes docs/WEB_RULES.md: the rules of x509_lint_web, by group in the order in which they are asked, of each what breaks it, its section, how bad it is, since
+when it is in force, and lints of zlint beside it.
 
-All of it is taken from the code, crates/x509_lint_web/src/rule. With `--check` it fails where the docs of a rule don't say its section, how bad it is or its
-date, where a rule stands in no place of the list of all rules, or in another order there than its group has, and where docs/WEB_RULES.md is another text.
+The lints are taken from tools/data/zlint.txt, and all else from the code, crates/x509_lint_web/src/rule. With `--check` it fails where the docs of a rule don't
+say its section, how bad it is or its date, where a rule stands in no place of the list of all rules, or in another order there than its group has, where a lint
+has no name of one, stands beside a rule that isn't there or beside several without a word why, and where docs/WEB_RULES.md is another text.
 """
 import re
 import sys
 
+import zlint_names
 from list_rules import TOP, docs_of, written
 
 CODE = TOP / "crates/x509_lint_web/src"
 PAGE = TOP / "docs/WEB_RULES.md"
 SEVERITIES = {"must": "error", "should": "warning"}
-HEAD = """# The rules of `x509_lint_web`, with sections and days from memory of version 2.1
+HEAD = f"""# The rules of `x509_lint_web`, with sections and days from memory of version 2.1
 
-`tools/gate/list_web_rules.py` makes this page of the rules in `crates/x509_lint_web/src/rule`: those of the Baseline Requirements for TLS server certificates
-(TLS BR) of the CA/Browser Forum, of version 2.0 and later, that a certificate alone shows. Whether a rule is broken is a definition of
-`crates/x509_lint_web/specs`, in the file of its group; `lint_web` is proved to find exactly the rules that are in force at a validation time and broken, and
+{zlint_names.HEAD}
+`tools/gate/list_web_rules.py` makes this page of `tools/data/zlint.txt` and the rules in `crates/x509_lint_web/src/rule`: those of the Baseline Requirements
+for TLS server certificates (TLS BR) of the CA/Browser Forum, of version 2.0 and later, that a certificate alone shows. Whether a rule is broken is a definition
+of `crates/x509_lint_web/specs`, in the file of its group; `lint_web` is proved to find exactly the rules that are in force at a validation time and broken, and
 `x509_linter --web MOMENT` prints these, of a MOMENT as `2026-03-15T00:00:00Z`. Behind what breaks a rule stand its section, `warning` where that is no error,
 and the day from which it is in force; without a day it was from the beginning.
 
@@ -52,10 +55,10 @@ def groups():
 
 
 def made():
-    faults, lines, count = [], [], 0
+    faults, lines, names, lints = [], [], [], zlint_names.Lints("x509_lint_web")
     for about, rules, listed in groups():
         lines.append(f"\n## {about.partition(' (TLS BR')[0]}\n\n")
-        count += len(rules)
+        names += [name for _, _, _, name, _, _ in rules]
         if [variant for variant, *_ in rules] != listed:
             faults.append(f"the list of all rules has others, or another order: {about}")
         for variant, docs, severity, name, section, date in rules:
@@ -63,8 +66,10 @@ def made():
             if not docs.endswith(end):
                 faults.append(f"the docs of {variant} don't end in{end}")
             told = [section, "" if severity == "error" else severity, date and f"from {date}"]
-            lines.append(f"- `{name}`: {docs.removesuffix(end)} ({', '.join(filter(None, told))}).\n")
-    return HEAD + f"{count} rules.\n" + "".join(lines), count, faults
+            beside = f" {lints.of(name)}." if lints.of(name) else ""
+            lines.append(f"- `{name}`: {docs.removesuffix(end)} ({', '.join(filter(None, told))}).{beside}\n")
+    counts = f"{len(names)} rules, {len(lints.beside)} of them with lints of zlint.\n"
+    return HEAD + counts + "".join(lines) + lints.end(), len(names), [*faults, *lints.faults(names)]
 
 
 if __name__ == "__main__":
