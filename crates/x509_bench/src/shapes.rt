@@ -173,7 +173,7 @@ pub(crate) fn close_extension(
     w.close(0x30, since)
 }
 
-/// Closes an extension whose OID is one octet below 2.5.29.
+/// The same, for an OID below 2.5.29.
 fn close_usual(w: &mut Writer, last: u8, critical: bool, since: usize) -> Result<(), Error> {
     close_extension(w, &[0x55, 0x1D, last], critical, since)
 }
