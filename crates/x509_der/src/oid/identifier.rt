@@ -4,7 +4,7 @@ ghost use Rattle.std.specs.Prelude.{◌≡◌, ◌*◌, ◌≤◌, ℕ, List, tr
 ghost use Rattle.x509_der.specs.Outcome.{Gives};
 ghost use Rattle.x509_der.specs.declared.error.ErrorKind.TheVariants.{Failed, Malformed};
 ghost use Rattle.x509_der.specs.Arcs.{AreArcs, content_of, dotted};
-ghost use Rattle.x509_der.specs.ObjectIdentifier.{arcs_of, first_arc, is_object_identifier};
+ghost use Rattle.x509_der.specs.ObjectIdentifier.{are_subidentifiers, arcs_of, first_arc, is_object_identifier};
 
 use crate::oid::content::{ContentOctets, MAX_OCTETS};
 use crate::oid::numbers::Numbers;
@@ -72,6 +72,30 @@ fn is_content(octets: &[u8]) -> bool
     if octets.is_empty() || octets.len() > MAX_OCTETS {
         return false;
     }
+    are_subidentifiers(behind_usual(octets))
+}
+
+// What stands behind the arcs that most algorithms begin with: 1.2.840.113549 (RFC 8017) or 1.2.840.10045 (RFC 5480); all
+// octets where they begin otherwise.
+#[inline(always)]
+fn behind_usual(octets: &[u8]) -> &[u8]
+    ensures { are_subidentifiers 0 true result.now ≡ are_subidentifiers 0 true octets.now }
+{
+    let [0x2A, 0x86, 0x48, others @ ..] = octets else {
+        return octets;
+    };
+    match others {
+        [0x86, 0xF7, 0x0D, others @ ..] => others,
+        [0xCE, 0x3D, others @ ..] => others,
+        _ => octets,
+    }
+}
+
+// Whether the octets are whole subidentifiers within the limit.
+#[inline(always)]
+fn are_subidentifiers(octets: &[u8]) -> bool
+    ensures { result ≡ are_subidentifiers 0 true octets.now }
+{
     // What the subidentifier at hand has said so far: 0 where one begins, since none begins with the octet 128.
     let mut high: u32 = 0;
     for octet in octets {

@@ -1,6 +1,6 @@
 use Rattle.std.proofs.Common.{◌≡◌, ◌<◌, drop, nat_eq, true}
 use Rattle.x509_der.specs.ObjectIdentifier.{are_subidentifiers}
-use Rattle.x509_der.proofs.oid.identifier.is_content.Given as goal
+use Rattle.x509_der.proofs.oid.identifier.are_subidentifiers.Given as goal
 
 abbrev pub invariant-loop-octet : goal.invariant-loop-octet
 invariant-loop-octet l = record {
