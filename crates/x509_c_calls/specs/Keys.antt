@@ -10,7 +10,7 @@ use Rattle.x509_der.specs.Any.{any}
 use Rattle.x509_der.specs.Form.{spelling}
 use Rattle.x509_prim.specs.BitString.{bit_string}
 use Rattle.x509_text.specs.Algorithms.{known_bits}
-pub use Rattle.x509_validation.specs.Keys.{AnswersKey}
+pub use Rattle.x509_validation.specs.WorkingKeys.{AnswersKey}
 
 -- the bits as they are written
 abbrev pub bits_text : SubjectPublicKeyInfo → List ℕ

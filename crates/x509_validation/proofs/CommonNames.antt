@@ -17,7 +17,8 @@ use Rattle.x509_name.specs.AttributeTypes as types
 use Rattle.x509_name.specs.declared.attr.type_and_value.AttributeTypeAndValue.{AttributeTypeAndValue}
 use Rattle.x509_path.specs.Certificates.{Certificate, HasPayload, extensions_of}
 use Rattle.x509_validation.proofs.AllowedNames.{one_found}
-use Rattle.x509_validation.specs.CommonNames.{AreForms, IsAddressText, IsOneAllowed, IsServerText, NamesServer, has_form, has_form_of, ip_octets, text_of}
+use Rattle.x509_validation.specs.CommonNames.{IsAddressText, IsServerText, NamesServer, has_form_of, ip_octets, text_of}
+use Rattle.x509_validation.specs.ServerNames.{AreForms, IsOneAllowed, has_form}
 use Rattle.x509_validation.specs.Inputs.{Inputs}
 use Rattle.x509_validation.specs.Steps.{Collects}
 use Rattle.x509_validation.specs.declared.common_names.Forms.{Forms}

@@ -8,7 +8,8 @@ use Rattle.x509_der.specs.Form.{Spells, spelling}
 use Rattle.x509_der.specs.declared.any.Any.{Any}
 use Rattle.x509_der.specs.declared.error.ErrorKind.{ErrorKind}
 use Rattle.x509_validation.specs.Inputs.{SpellsOption}
-use Rattle.x509_validation.specs.Keys.{AnswersKey, inherited, parameters_of, with_parameters, working_key}
+use Rattle.x509_validation.specs.Keys.{inherited, parameters_of, with_parameters, working_key}
+use Rattle.x509_validation.specs.WorkingKeys.{AnswersKey}
 use Rattle.x509_validation.specs.Trusts.{RefusesEncoding}
 
 -- parameters that are lent

@@ -28,3 +28,4 @@ pub mod EmptyNames
 pub mod KeyAnswers
 pub mod Lasts
 pub mod CommonNames
+pub mod OwnFaults

@@ -5,7 +5,7 @@ use Rattle.std.specs.Net.Addr.{ipv4_octets, ipv6_octets}
 use Rattle.std.specs.Net.Grammar.{IsIpText}
 use Rattle.std.specs.declared.net.ip_addr.IpAddr.{IpAddr}
 use Rattle.std.specs.declared.net.ip_addr.IpAddr.TheVariants as ip
-use Rattle.x509_constraints.specs.Constraints.{IsAllowed, IsAllowedBy}
+use Rattle.x509_constraints.specs.Constraints.{IsAllowedBy}
 use Rattle.x509_ext.specs.declared.pkix.alternative_names.SubjectAltName.{SubjectAltName}
 use Rattle.x509_ext.specs.declared.pkix.name.general_name.GeneralName.{GeneralName}
 use Rattle.x509_ext.specs.declared.pkix.name.general_name.GeneralName.TheVariants.{DnsName, IpAddress}
@@ -14,7 +14,6 @@ use Rattle.x509_host.specs.Host.{is_host_or_wildcard, without_root}
 use Rattle.x509_match.specs.Matching.{compared_text}
 use Rattle.x509_name.specs.AttributeTypes as types
 use Rattle.x509_name.specs.declared.attr.type_and_value.AttributeTypeAndValue.{AttributeTypeAndValue}
-use Rattle.x509_validation.specs.declared.common_names.Forms.{Forms}
 
 -- ---- texts
 
@@ -66,16 +65,6 @@ has_form_of (DnsName _) names = list_any is_dns_name (names_of names)
 has_form_of (IpAddress _) names = list_any is_ip_address (names_of names)
 has_form_of _ names = false
 
--- which of these forms it has
-pub record AreForms (forms : Forms) (names : Option SubjectAltName) : Type 0 where
-  pub dns : forms.dns ≡ list_any is_dns_name (names_of names)
-  pub ip : forms.ip ≡ list_any is_ip_address (names_of names)
-
-abbrev pub has_form : Forms → GeneralName → Bool
-has_form forms (DnsName _) = forms.dns
-has_form forms (IpAddress _) = forms.ip
-has_form forms _ = false
-
 -- the attribute is asked as that name: a peer may be taken by it, as the SAN has none of its form
 abbrev pub IsAskedAs : Option SubjectAltName → AttributeTypeAndValue → GeneralName → Type 0
 IsAskedAs names a name = NamesServer a name × (has_form_of name names ≡ false)
@@ -83,7 +72,3 @@ IsAskedAs names a name = NamesServer a name × (has_form_of name names ≡ false
 -- what it is asked as is allowed by one set
 abbrev pub IsCommonNameAllowed : NameConstraints → Option SubjectAltName → AttributeTypeAndValue → Type 0
 IsCommonNameAllowed constraints names a = (name : GeneralName) → IsAskedAs names a name → IsAllowedBy constraints name
-
--- and by all that apply
-abbrev pub IsOneAllowed : List NameConstraints → Option SubjectAltName → AttributeTypeAndValue → Type 0
-IsOneAllowed sets names a = (name : GeneralName) → IsAskedAs names a name → IsAllowed sets name

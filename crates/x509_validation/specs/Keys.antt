@@ -1,15 +1,10 @@
 -- Public keys along a path, with the parameters of their algorithms (RFC 5280 6.1.2 (g) to (i), 6.1.4 (d) to (f)).
-use Rattle.std.specs.Prelude.{◌≡◌, ◌<◌, ◌⊎◌, ℕ, List, [], ◌∷◌, length, Option, Some, None, Result, Ok, Err, bytes_eq, if◌then◌else◌}
-use Rattle.x509_base.specs.SubjectPublicKeyInfo.{subject_public_key_info}
+use Rattle.std.specs.Prelude.{ℕ, List, [], ◌∷◌, Option, Some, None, bytes_eq, if◌then◌else◌}
 use Rattle.x509_base.specs.declared.subject_public_key_info.SubjectPublicKeyInfo.{SubjectPublicKeyInfo}
 use Rattle.x509_der.specs.Any.{any}
-use Rattle.x509_der.specs.Element.{limit}
-use Rattle.x509_der.specs.Form.{Spells, spelling}
+use Rattle.x509_der.specs.Form.{spelling}
 use Rattle.x509_der.specs.declared.any.Any.{Any}
-use Rattle.x509_der.specs.declared.error.ErrorKind.{ErrorKind}
-use Rattle.x509_der.specs.declared.error.ErrorKind.TheVariants.{Memory, Overlength}
 use Rattle.x509_path.specs.Certificates.{Certificate}
-use Rattle.x509_validation.specs.Trusts.{IsRefused}
 
 -- the encoding of NULL (X.690 8.8)
 abbrev pub null : List ℕ
@@ -41,22 +36,3 @@ working_key above key = with_parameters key (inherited above key (parameters_of 
 abbrev pub key_behind : SubjectPublicKeyInfo → List Certificate → SubjectPublicKeyInfo
 key_behind trusted [] = trusted
 key_behind trusted (c ∷ behind) = key_behind (working_key trusted c.tbs_certificate.subject_public_key_info) behind
-
--- ---- of encodings
-
--- the octets are no key
-abbrev pub IsNoKey : List ℕ → ErrorKind → Type 0
-IsNoKey octets e = IsRefused subject_public_key_info (λ kind. ⊥) octets e
-
--- What is answered to the octets of a key above and of a key: those of the latter as it is used; else why not: out of memory, one of them is no key,
--- or those of the key as it is used would be too long.
-abbrev pub AnswersKey : List ℕ → List ℕ → Result (List ℕ) ErrorKind → Type 0
-AnswersKey above key (Ok octets) =
-    (a : SubjectPublicKeyInfo) × (k : SubjectPublicKeyInfo) × Spells subject_public_key_info a above × Spells subject_public_key_info k key
-    × Spells subject_public_key_info (working_key a k) octets
-AnswersKey above key (Err e) =
-    (e ≡ Memory)
-    ⊎ (IsNoKey above e
-    ⊎ (IsNoKey key e
-    ⊎ ((e ≡ Overlength) × (a : SubjectPublicKeyInfo) × (k : SubjectPublicKeyInfo) × Spells subject_public_key_info a above
-    × Spells subject_public_key_info k key × (limit < length (spelling subject_public_key_info (working_key a k))))))

@@ -1,5 +1,5 @@
 -- What is wrong with the last certificate of a path whatever stands above it: no anchor and no authority mends that (RFC 5280 6.1.3, 6.1.5).
-use Rattle.std.specs.Prelude.{List, [], ◌∷◌, ℕ, Option, Some, None}
+use Rattle.std.specs.Prelude.{Bool, List, [], ◌∷◌, ℕ, Option, Some, None}
 use Rattle.x509_base.specs.CivilTime.{CivilTime}
 use Rattle.x509_ext.specs.LookUp.{IsRepeated}
 use Rattle.x509_ext.specs.declared.pkix.key_usage.KeyUsage as usages
@@ -21,22 +21,26 @@ pub record AskedAlone : Type 0 where
 abbrev pub asked_alone : PathSettings → AskedAlone
 asked_alone settings = record { moment = settings.moment; purposes = purposes_of settings; key_usage = settings.key_usage }
 
+-- a fault of its own, whatever stands above it and below it
+abbrev pub HasOwnFault : CivilTime → Bool → Certificate → ValidationReason → Type 0
+HasOwnFault moment asks c Algorithm = certificates.HasTwoAlgorithms c
+-- 6.1.3 (a) (2)
+HasOwnFault moment asks c Moment = certificates.IsOutside moment c.tbs_certificate.validity
+-- 4.1.2.9
+HasOwnFault moment asks c OtherVersion = HasOtherVersion c
+HasOwnFault moment asks c Repeated = IsRepeated (extensions_of c)
+HasOwnFault moment asks c Undecodable = AreSpelled (extensions_of c) → ⊥
+-- 6.1.4 (o), 6.1.5 (f)
+HasOwnFault moment asks c Critical = AreProcessed asks (extensions_of c) → ⊥
+HasOwnFault moment asks c _ = ⊥
+
 -- that is wrong with it as the last one
 abbrev pub BreaksAlone : AskedAlone → Certificate → ValidationReason → Type 0
-BreaksAlone asked c Algorithm = certificates.HasTwoAlgorithms c
--- 6.1.3 (a) (2)
-BreaksAlone asked c Moment = certificates.IsOutside asked.moment c.tbs_certificate.validity
--- 4.1.2.9
-BreaksAlone asked c OtherVersion = HasOtherVersion c
-BreaksAlone asked c Repeated = IsRepeated (extensions_of c)
-BreaksAlone asked c Undecodable = AreSpelled (extensions_of c) → ⊥
--- 6.1.5 (f)
-BreaksAlone asked c Critical = AreProcessed (asks_purpose asked.purposes) (extensions_of c) → ⊥
 -- 4.2.1.3
 BreaksAlone asked c OtherUsage = LacksUsage asked.key_usage (extensions_of c)
 -- 4.2.1.12
 BreaksAlone asked c OtherPurpose = LackPurpose asked.purposes (c ∷ [])
-BreaksAlone asked c _ = ⊥
+BreaksAlone asked c reason = HasOwnFault asked.moment (asks_purpose asked.purposes) c reason
 
 -- the order in which they are told
 abbrev pub lone_reasons : List ValidationReason

@@ -4,7 +4,9 @@ pub mod Inputs
 pub mod Policies
 pub mod Trusts
 pub mod Keys
+pub mod WorkingKeys
 pub mod CommonNames
+pub mod ServerNames
 pub mod Validation
 pub mod ValidationFault
 pub mod Steps

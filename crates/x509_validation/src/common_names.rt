@@ -12,6 +12,7 @@ ghost use Rattle.x509_match.specs.Keys.{attribute_key};
 ghost use Rattle.x509_name.specs.AttributeTypes as types;
 ghost use Rattle.x509_name.specs.declared.attr.type_and_value.AttributeTypeAndValue.{AttributeTypeAndValue};
 ghost use Rattle.x509_validation.specs.CommonNames as common;
+ghost use Rattle.x509_validation.specs.ServerNames as servers;
 
 use std::alloc::{AllocError, Global};
 use std::net::IpAddr;
@@ -148,7 +149,7 @@ fn has_ip_address(names: &[GeneralName]) -> bool
 
 /// The forms that the SAN has.
 fn forms_of(alternative: Option<&SubjectAltName>) -> Forms
-    ensures { common.AreForms result (option_copied alternative.entry) }
+    ensures { servers.AreForms result (option_copied alternative.entry) }
 {
     match alternative {
         Some(alternative) => {
@@ -167,7 +168,7 @@ fn forms_of(alternative: Option<&SubjectAltName>) -> Forms
 
 /// Whether the form of the name is among them.
 fn has_form(forms: Forms, name: &GeneralName) -> bool
-    ensures { result ≡ common.has_form forms name.now }
+    ensures { result ≡ servers.has_form forms name.now }
 {
     match name {
         GeneralName::DnsName(_) => forms.dns,
@@ -183,8 +184,8 @@ fn allows_attribute(
     attribute: &AttributeTypeAndValue,
     forms: Forms,
 ) -> Result<bool, AllocError>
-    ensures { (applied : List values.NameConstraints) (alternative : Option alternatives.SubjectAltName) → AreApplied sets.now applied → common.AreForms forms alternative
-        → IfOk result (λ b. IsTrue b ↔ common.IsOneAllowed applied alternative attribute.now) }
+    ensures { (applied : List values.NameConstraints) (alternative : Option alternatives.SubjectAltName) → AreApplied sets.now applied → servers.AreForms forms alternative
+        → IfOk result (λ b. IsTrue b ↔ servers.IsOneAllowed applied alternative attribute.now) }
 {
     let Some(name) = server_of(alloc, attribute)? else {
         return Ok(true);
@@ -202,8 +203,8 @@ fn allows_attributes(
     attributes: &[AttributeTypeAndValue],
     forms: Forms,
 ) -> Result<bool, AllocError>
-    ensures { (applied : List values.NameConstraints) (alternative : Option alternatives.SubjectAltName) → AreApplied sets.now applied → common.AreForms forms alternative
-        → IfOk result (λ b. IsTrue b ↔ All (λ a. common.IsOneAllowed applied alternative a) attributes.now) }
+    ensures { (applied : List values.NameConstraints) (alternative : Option alternatives.SubjectAltName) → AreApplied sets.now applied → servers.AreForms forms alternative
+        → IfOk result (λ b. IsTrue b ↔ All (λ a. servers.IsOneAllowed applied alternative a) attributes.now) }
 {
     for attribute in attributes {
         if !allows_attribute(alloc, sets, attribute, forms)? {
@@ -220,8 +221,8 @@ fn allows_rdns(
     rdns: &[RelativeDistinguishedName],
     forms: Forms,
 ) -> Result<bool, AllocError>
-    ensures { (applied : List values.NameConstraints) (alternative : Option alternatives.SubjectAltName) → AreApplied sets.now applied → common.AreForms forms alternative
-        → IfOk result (λ b. IsTrue b ↔ All (λ rdn. All (λ a. common.IsOneAllowed applied alternative a) rdn) rdns.now) }
+    ensures { (applied : List values.NameConstraints) (alternative : Option alternatives.SubjectAltName) → AreApplied sets.now applied → servers.AreForms forms alternative
+        → IfOk result (λ b. IsTrue b ↔ All (λ rdn. All (λ a. servers.IsOneAllowed applied alternative a) rdn) rdns.now) }
 {
     for rdn in rdns {
         if !allows_attributes(alloc, sets, rdn.as_slice(), forms)? {
@@ -239,7 +240,7 @@ pub(crate) fn allows_common_names(
     alternative: Option<&SubjectAltName>,
 ) -> Result<bool, AllocError>
     ensures { (applied : List values.NameConstraints) → AreApplied sets.now applied
-        → IfOk result (λ b. IsTrue b ↔ All (λ rdn. All (λ a. common.IsOneAllowed applied (option_copied alternative.entry) a) rdn) subject.now) }
+        → IfOk result (λ b. IsTrue b ↔ All (λ rdn. All (λ a. servers.IsOneAllowed applied (option_copied alternative.entry) a) rdn) subject.now) }
 {
     let forms = forms_of(alternative);
     allows_rdns(alloc, sets, subject.as_ref().as_slice(), forms)

@@ -1,7 +1,7 @@
 //! Keys as they are used under others.
 
 ghost use Rattle.std.specs.Prelude.{MatchResult, Ok, Err};
-ghost use Rattle.x509_validation.specs.Keys.{AnswersKey};
+ghost use Rattle.x509_validation.specs.WorkingKeys.{AnswersKey};
 
 use crate::above::{Above, filled_in};
 use std::alloc::Global;

@@ -5,15 +5,14 @@ ghost use Rattle.x509_path.specs.Certificates as certificates;
 ghost use Rattle.x509_path.specs.Lent.{Lends, lent_extensions};
 ghost use Rattle.x509_validation.specs.Last.{BreaksAlone, TellsAlone, asked_alone};
 
-use crate::processed::{are_processed, are_spelled, lacks_usage};
+use crate::own::has_own_fault;
+use crate::processed::lacks_usage;
 use crate::purposes::lacks_purposes;
 use crate::settings::PathSettings;
 use crate::validation_fault::ValidationReason;
-use crate::validator::has_other_version;
 use std::alloc::{AllocError, Global};
 use x509_check::{CertificateRef, ExtensionRef};
-use x509_path::certificate::{has_two_algorithms, is_outside};
-use x509_path::extensions::{collect, is_repeated};
+use x509_path::extensions::collect;
 
 /// The reasons that are asked of a certificate alone, in their order.
 const REASONS: [ValidationReason; 8] = [
@@ -39,17 +38,19 @@ fn breaks_alone(
         → IsTrue b ↔ BreaksAlone (asked_alone settings.now) c reason) }
 {
     match reason {
-        ValidationReason::Algorithm => Ok(has_two_algorithms(certificate)),
-        ValidationReason::Moment => Ok(is_outside(settings.moment, certificate)),
-        ValidationReason::Version => Ok(has_other_version(certificate, extensions)),
-        ValidationReason::Repeated => is_repeated(alloc, extensions),
-        ValidationReason::Extension => Ok(!are_spelled(extensions)),
-        ValidationReason::Critical => {
-            Ok(!are_processed(settings.purposes.is_some(), extensions))
-        }
         ValidationReason::Usage => Ok(lacks_usage(alloc, settings.key_usage, extensions)),
         ValidationReason::Purpose => lacks_purposes(alloc, settings, extensions),
-        _ => Ok(false),
+        _ => {
+            let asks_purpose = settings.purposes.is_some();
+            has_own_fault(
+                alloc,
+                certificate,
+                extensions,
+                settings.moment,
+                asks_purpose,
+                reason,
+            )
+        }
     }
 }
 

@@ -18,6 +18,7 @@ pub mod laws;
 mod limits;
 mod matching;
 mod oids;
+mod own;
 mod policies;
 mod processed;
 mod purposes;

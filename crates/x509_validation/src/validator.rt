@@ -4,7 +4,7 @@ ghost use Rattle.std.specs.Prelude.{◌≡◌, ◌↔◌, IfOk, IsTrue, List, Op
 ghost use Rattle.x509_path.specs.Certificates as certificates;
 ghost use Rattle.x509_path.specs.Lent.{Lends, lent_extensions};
 ghost use Rattle.x509_validation.specs.Steps.{AreConstraintsOf};
-ghost use Rattle.x509_validation.specs.Validation.{HasOtherVersion, HasUnusable};
+ghost use Rattle.x509_validation.specs.Validation.{HasUnusable};
 ghost use Rattle.x509_validation.specs.declared.validation_fault.ValidationFault.TheVariants as faults;
 ghost use Rattle.x509_validation.specs.declared.validation_fault.ValidationReason.TheVariants as reasons;
 
@@ -12,22 +12,19 @@ use crate::above::{Above, filled_in};
 use crate::asked::{Asked, is_authority};
 use crate::common_names::allows_common_names;
 use crate::matching::{is_asked, is_self_issued, names_match};
+use crate::own::has_own_fault;
 use crate::policies::{Said, said_of};
-use crate::processed::{are_processed, are_spelled, lacks_usage, owned_payload};
+use crate::processed::{lacks_usage, owned_payload};
 use crate::purposes::{is_any_asked, is_none_left, purposes_behind};
 use crate::validation_fault::{ValidationFault, ValidationReason};
 use std::alloc::{AllocError, Global};
 use x509_base::DateTime;
-use x509_cert::certificate::Version;
 use x509_check::{CertificateRef, ExtensionRef};
 use x509_constraints::is_usable;
 use x509_ext::pkix::{BasicConstraints, NameConstraints, SubjectAltName};
 use x509_name::name::Name;
 use x509_path::AnchorRef;
-use x509_path::certificate::{has_two_algorithms, is_outside};
-use x509_path::extensions::{
-    basic_constraints, is_repeated, lacks_key_cert_sign, lend_all, places,
-};
+use x509_path::extensions::{basic_constraints, lacks_key_cert_sign, lend_all, places};
 use x509_path::lengths::is_over;
 use x509_path::trust::{Trust, is_signed, known_value};
 
@@ -139,17 +136,6 @@ fn is_unusable(constraints: &Option<NameConstraints>) -> bool
         Some(constraints) => !is_usable(constraints),
         None => false,
     }
-}
-
-/// Whether there are extensions, and the version isn't 3.
-pub(crate) fn has_other_version(
-    certificate: &CertificateRef<'_>,
-    extensions: &[ExtensionRef<'_>],
-) -> bool
-    ensures { (c : certificates.Certificate) → Lends certificate.now.bytes.now c → lent_extensions extensions.now ≡ certificates.extensions_of c
-        → IsTrue result ↔ HasOtherVersion c }
-{
-    !extensions.is_empty() && certificate.version() != Version::V3
 }
 
 impl<S: Trust> Validator<'_, S> {
@@ -335,18 +321,8 @@ impl<S: Trust> Validator<'_, S> {
         let certificate = parts.certificate;
         let extensions = parts.extensions;
         match reason {
-            ValidationReason::Decode => Ok(false),
-            ValidationReason::Algorithm => Ok(has_two_algorithms(certificate)),
             ValidationReason::Issuer => self.is_of_another(stand, certificate),
-            ValidationReason::Moment => Ok(is_outside(self.moment, certificate)),
             ValidationReason::Signature => Ok(!self.is_signed(stand, certificate)?),
-            ValidationReason::Version => Ok(has_other_version(certificate, extensions)),
-            ValidationReason::Repeated => is_repeated(self.alloc, extensions),
-            ValidationReason::Extension => Ok(!are_spelled(extensions)),
-            ValidationReason::Critical => {
-                let asks_purpose = is_any_asked(&stand.sets.purposes);
-                Ok(!are_processed(asks_purpose, extensions))
-            }
             ValidationReason::NotCa => {
                 let basic_constraints = parts.basic_constraints;
                 Ok(!stand.is_last && !is_authority(stand.sets.uses, certificate, basic_constraints))
@@ -365,9 +341,17 @@ impl<S: Trust> Validator<'_, S> {
             ValidationReason::Constraints => {
                 Ok(!stand.is_last && is_unusable(parts.name_constraints))
             }
-            ValidationReason::RepeatedPolicy
-            | ValidationReason::Policy
-            | ValidationReason::PolicyMapping => Ok(false),
+            _ => {
+                let asks_purpose = is_any_asked(&stand.sets.purposes);
+                has_own_fault(
+                    self.alloc,
+                    certificate,
+                    extensions,
+                    self.moment,
+                    asks_purpose,
+                    reason,
+                )
+            }
         }
     }
 

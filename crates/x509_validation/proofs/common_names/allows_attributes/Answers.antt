@@ -1,5 +1,5 @@
 use Rattle.x509_constraints.proofs.Asked.{all_done, all_step, not_all}
-use Rattle.x509_validation.specs.CommonNames.{IsOneAllowed}
+use Rattle.x509_validation.specs.ServerNames.{IsOneAllowed}
 use Rattle.x509_validation.proofs.common_names.allows_attributes.Goals as goal
 
 pub returns-then-not-branch : goal.returns-then-not-branch

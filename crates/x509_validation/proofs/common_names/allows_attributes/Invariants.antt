@@ -3,7 +3,7 @@ use Rattle.std.specs.List.{All}
 use Rattle.x509_constraints.specs.Applied.{AreApplied}
 use Rattle.x509_ext.specs.declared.pkix.alternative_names.SubjectAltName.{SubjectAltName}
 use Rattle.x509_ext.specs.declared.pkix.name_constraints.NameConstraints.{NameConstraints}
-use Rattle.x509_validation.specs.CommonNames.{AreForms, IsOneAllowed}
+use Rattle.x509_validation.specs.ServerNames.{AreForms, IsOneAllowed}
 use Rattle.x509_validation.proofs.common_names.allows_attributes.Given as goal
 
 abbrev pub invariant-loop-attribute : goal.invariant-loop-attribute

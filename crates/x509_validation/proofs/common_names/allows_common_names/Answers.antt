@@ -3,7 +3,7 @@ use Rattle.std.proofs.lemmas.Result.{IfOk-weaker}
 use Rattle.std.specs.List.{All}
 use Rattle.std.specs.Option.{option_copied}
 use Rattle.x509_name.specs.declared.attr.type_and_value.AttributeTypeAndValue.{AttributeTypeAndValue}
-use Rattle.x509_validation.specs.CommonNames.{IsOneAllowed}
+use Rattle.x509_validation.specs.ServerNames.{IsOneAllowed}
 use Rattle.x509_validation.proofs.common_names.allows_common_names.Goals as goal
 
 pub returns : goal.returns

@@ -1,6 +1,6 @@
 use Rattle.std.specs.List.{All}
 use Rattle.x509_constraints.proofs.Asked.{all_done, all_step, not_all}
-use Rattle.x509_validation.specs.CommonNames.{IsOneAllowed}
+use Rattle.x509_validation.specs.ServerNames.{IsOneAllowed}
 use Rattle.x509_validation.proofs.common_names.allows_rdns.Goals as goal
 
 pub returns-then-not-branch : goal.returns-then-not-branch

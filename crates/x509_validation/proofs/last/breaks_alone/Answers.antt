@@ -1,11 +1,15 @@
-use Rattle.std.proofs.Common.{◌↔◌, subst}
+use Rattle.std.proofs.Common.{◌≡◌, ◌∙◌, ◌↔◌, subst, sym}
+use Rattle.std.proofs.lemmas.Result.{IfOk-weaker}
 use Rattle.std.specs.Bool.{IsTrue}
-use Rattle.x509_path.specs.Certificates.{extensions_of}
-use Rattle.x509_validation.specs.Validation.{AreSpelled}
-use Rattle.x509_path.proofs.Lent.{differ}
+use Rattle.x509_validation.specs.Inputs.{purposes_of}
+use Rattle.x509_validation.specs.Last.{HasOwnFault, asked_alone}
+use Rattle.x509_validation.specs.Validation.{asks_purpose}
+use Rattle.x509_validation.proofs.OwnFaults.{asks_given, of_last}
 use Rattle.x509_validation.proofs.last.breaks_alone.Goals as goal
 
-pub returns-in-Extension : goal.returns-in-Extension
-returns-in-Extension c = λ certificate lends same.
-    let said : IsTrue c.are_spelled.result ↔ AreSpelled (extensions_of certificate) = subst (λ es. IsTrue c.are_spelled.result ↔ AreSpelled es) same c.are_spelled.ensures in
-    rw c.in-Extension.is (differ c.are_spelled.result said)
+pub returns-in_default : goal.returns-in_default
+returns-in_default c = IfOk-weaker c.has_own_fault.result _ _ (λ b said certificate lends same.
+    let asks : c.is_some-asks_purpose.result ≡ asks_purpose (purposes_of c.args.settings.now) = c.is_some-asks_purpose.ensures ∙ sym (asks_given c.args.settings.now) in
+    of_last (asked_alone c.args.settings.now) certificate b c.args.reason c.in_default.not-Usage c.in_default.not-Purpose
+    (subst (λ asks. IsTrue b ↔ HasOwnFault c.args.settings.now.moment asks certificate c.args.reason) asks (said certificate lends same)))
+    c.has_own_fault.ensures

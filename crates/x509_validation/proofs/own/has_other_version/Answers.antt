@@ -7,7 +7,7 @@ use Rattle.x509_der.specs.Exact.{exact_bare}
 use Rattle.x509_path.proofs.Lent.{differ}
 use Rattle.x509_path.specs.Certificates.{extensions_of}
 use Rattle.x509_validation.proofs.Versions.{none_lent}
-use Rattle.x509_validation.proofs.validator.has_other_version.Goals as goal
+use Rattle.x509_validation.proofs.own.has_other_version.Goals as goal
 
 pub returns-then-not-is_empty : goal.returns-then-not-is_empty
 returns-then-not-is_empty c = λ certificate lends same.
