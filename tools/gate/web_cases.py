@@ -271,7 +271,12 @@ def validity_rules():
 
 def host_rules():
     service = "duckduckgogg42xjoc72x3sjasowoarfbgcmvfimaftt6twagswzczad"
-    right = "a.example.com", "xn--c.example.com", "XN--d.example.com", "local.com", "a.test.com", "a.alternative", "1.2.3.com", "a.b.1c", "a.arpa", "a.onions"
+    right = "a.example.com", "xn--p1ai.example.com", "XN--mgbh0fb.example.com", "local.com", "a.test.com", "a.alternative", "1.2.3.com", "a.b.1c", "a.arpa", "a.onions"
+    for text in ("xn--bcher-kva.example.com", "XN--BCHER-KVA.Example.com", "xn--a-ecp.ru", f"xn--{59 * 'a'}.com", "axn--0.com"):
+        yield server(names=hosts(text)), ""
+    # a digit too few, a number over the code points, a sign that is no digit, and a label of 64 octets
+    for text in ("xn--c.example.com", "XN--d.example.com", "a.xn--bcher-kv9.com", "xn--99999999.com", f"b.xn--{60 * 'a'}.com"):
+        yield server(names=hosts("a.example.com", text)), "dns_name_xn_label_other"
     for text in (*right, "in-addr.arpa", "a.xip6.arpa", f"{service}.onion", f"a.{service.upper()}.ONION", f"*.{service}.onion"):
         yield server(names=hosts(text)), ""
     yield server(names=hosts("a_b.example.com")), "dns_name_underscore"
@@ -543,6 +548,12 @@ def second_before(day):
     return (datetime.datetime.fromisoformat(day) - SECOND).isoformat() + "Z"
 
 
+def not_before_of(data):
+    """The notBefore of a certificate, which is its first UTCTime (RFC 5280 4.1.2.5.1)."""
+    digits = re.search(rb"\x17\x0d(\d{12})Z", data)[1].decode()
+    return datetime.datetime.strptime(f"20{digits}", "%Y%m%d%H%M%S").isoformat() + "Z"
+
+
 def told(rules, moment, page):
     """What is printed of a certificate that breaks these rules, and the status: a line for each rule that is in force."""
     found = [(rule, severity, section) for rule, (severity, section, day) in page.items() if rule in rules and (not day or f"{day}T00:00:00Z" <= moment)]
@@ -597,7 +608,8 @@ def seen_runs(page):
 
 
 def web_runs():
-    """For each run a name, its words, its input, what it is to print, and its status: of all in force, and about the day of each rule that is broken."""
+    """For each run a name, its words, its input, what it is to print, and its status: of all in force, about the day of each rule that is broken, and at the
+    moment of notBefore."""
     page = rules_of_page()
     broken = set()
     for group in GROUPS:
@@ -607,6 +619,7 @@ def web_runs():
             days = sorted({page[rule][2] for rule in rules} - {""})
             for moment in [NOW, *(f"{day}T00:00:00Z" for day in days), *map(second_before, days)]:
                 yield f"{group.__name__} {at} at {moment}", ["--web", moment], data, *told(rules, moment, page)
+            yield f"{group.__name__} {at} at its notBefore", ["--web", "not-before"], data, *told(rules, not_before_of(data), page)
     yield from seen_runs(page)
     if broken != set(page):
         raise ValueError(f"no certificate breaks these rules: {sorted(set(page) - broken)}")

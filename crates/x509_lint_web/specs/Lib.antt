@@ -7,6 +7,7 @@ pub mod Field
 pub mod Validity
 pub mod Address
 pub mod Host
+pub mod Label
 pub mod CommonName
 pub mod Values
 pub mod Name

@@ -58,6 +58,7 @@ name_rules =
     ∷ rules.SubjectAltNameCritical
     ∷ rules.DnsNameUnderscore
     ∷ rules.DnsNameReservedLabel
+    ∷ rules.DnsNameXnLabelOther
     ∷ rules.DnsNameWildcard
     ∷ rules.DnsNameOneLabel
     ∷ rules.DnsNameInternal
@@ -90,6 +91,9 @@ name_sentence rules.DnsNameUnderscore =
 name_sentence rules.DnsNameReservedLabel =
     must (codes "dns_name_reserved_label") (codes "7.1.2.7.12") (from_day 2021 10 1) (codes "tbsCertificate.extensions.subjectAltName")
     (λ c v. passes (λ s. list_any (has_fault ReservedLabel) s.0) v.subject_alt_name)
+name_sentence rules.DnsNameXnLabelOther =
+    must (codes "dns_name_xn_label_other") (codes "7.1.2.7.12") (from_day 2021 10 1) (codes "tbsCertificate.extensions.subjectAltName")
+    (λ c v. v.has_other_labels)
 name_sentence rules.DnsNameWildcard =
     must (codes "dns_name_wildcard") (codes "7.1.2.7.12") None (codes "tbsCertificate.extensions.subjectAltName")
     (λ c v. passes (λ s. list_any (has_fault Wildcard) s.0) v.subject_alt_name)

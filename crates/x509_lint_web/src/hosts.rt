@@ -53,7 +53,7 @@ pub(crate) fn has_reserved_label(text: &[u8]) -> bool
     text.split(|octet| *octet == b'.').any(is_reserved_label)
 }
 
-fn is_xn_label(label: &[u8]) -> bool
+pub(crate) fn is_xn_label(label: &[u8]) -> bool
     ensures { result ≡ host.is_xn_label label.now }
 {
     label.len() >= 4 && is_same(&label[..4], b"xn--")

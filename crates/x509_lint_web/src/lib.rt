@@ -12,6 +12,7 @@ mod day;
 mod entry;
 mod factors;
 mod hosts;
+mod labels;
 mod lint;
 mod names;
 mod numbers;

@@ -79,7 +79,7 @@ pub enum WebRule {
 }
 
 /// All rules, in their order.
-pub(crate) const WEB_RULES: [WebRule; 131] = [
+pub(crate) const WEB_RULES: [WebRule; 132] = [
     WebRule::Field(WebFieldRule::VersionNotV3),
     WebRule::Field(WebFieldRule::SignatureOfSha1),
     WebRule::Field(WebFieldRule::SignatureAlgorithmOther),
@@ -114,6 +114,7 @@ pub(crate) const WEB_RULES: [WebRule; 131] = [
     WebRule::Name(WebNameRule::SubjectAltNameCritical),
     WebRule::Name(WebNameRule::DnsNameUnderscore),
     WebRule::Name(WebNameRule::DnsNameReservedLabel),
+    WebRule::Name(WebNameRule::DnsNameXnLabelOther),
     WebRule::Name(WebNameRule::DnsNameWildcard),
     WebRule::Name(WebNameRule::DnsNameOneLabel),
     WebRule::Name(WebNameRule::DnsNameInternal),

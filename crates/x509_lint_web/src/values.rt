@@ -6,6 +6,7 @@ ghost use Rattle.x509_lint_web.specs.Values.{AreNameValues, AreWebValues};
 ghost use Rattle.x509_lint_web.specs.Words.{AreValuesOf, IsSpelled};
 
 use crate::common_names::{CommonNameFault, has_odd_name};
+use crate::labels::has_other_labels;
 use std::alloc::Global;
 use x509_base::{Raw, SubjectPublicKeyInfo};
 use x509_cert::certificate::CertificateInner;
@@ -40,6 +41,9 @@ pub(crate) struct WebValues {
 
     /// The SAN is read, and a commonName of the subject is a name of it, and is written otherwise.
     pub(crate) has_rewritten_name: bool,
+
+    /// The SAN is read, and a dNSName of it has a label that begins with `xn--` and isn't one of IDNA.
+    pub(crate) has_other_labels: bool,
 }
 
 impl Drop for WebValues {
@@ -57,6 +61,7 @@ impl Drop for WebValues {
             rsa_numbers: _,
             has_stray_name: _,
             has_rewritten_name: _,
+            has_other_labels: _,
         } = self;
     }
 }
@@ -93,6 +98,7 @@ fn values_of(
         &subject_alt_name,
         subject,
     )?;
+    let has_other_labels = has_other_labels(alloc, &subject_alt_name)?;
     Ok(WebValues {
         basic_constraints: payload(alloc, extensions)?,
         key_usage: payload(alloc, extensions)?,
@@ -106,6 +112,7 @@ fn values_of(
         rsa_numbers: spelled(alloc, key.subject_public_key.raw_bytes())?,
         has_stray_name,
         has_rewritten_name,
+        has_other_labels,
     })
 }
 

@@ -348,6 +348,7 @@ dns_name_reserved_label
 dns_name_reverse
 dns_name_underscore
 dns_name_wildcard
+dns_name_xn_label_other
 domain_validated_attribute
 ec_curve_other
 ec_without_digital_signature

@@ -39,6 +39,10 @@ pub enum WebNameRule {
     /// error, from 2021-10-01).
     DnsNameReservedLabel,
 
+    /// A dNSName has a label that begins with `xn--` and isn't Punycode behind that, or has more than 63 octets (TLS BR
+    /// 7.1.2.7.12, error, from 2021-10-01).
+    DnsNameXnLabelOther,
+
     /// A dNSName has a * that isn't the whole of its leftmost label (TLS BR 7.1.2.7.12, error).
     DnsNameWildcard,
 
@@ -83,13 +87,14 @@ pub enum WebNameRule {
 }
 
 /// How the rules are told, in the order of their variants.
-static ENTRIES: [WebEntry; 18] = entries! {
+static ENTRIES: [WebEntry; 19] = entries! {
     SubjectAltNameAbsent => must("subject_alt_name_absent", "7.1.2.7.12", None, "tbsCertificate.extensions.subjectAltName"),
     SubjectAltNameWithoutHost => must("subject_alt_name_without_host", "7.1.2.7.12", None, "tbsCertificate.extensions.subjectAltName"),
     SubjectAltNameOther => must("subject_alt_name_other", "7.1.2.7.12", None, "tbsCertificate.extensions.subjectAltName"),
     SubjectAltNameCritical => must("subject_alt_name_critical", "7.1.2.7.12", from_day(2023, 9, 15), "tbsCertificate.extensions.subjectAltName"),
     DnsNameUnderscore => must("dns_name_underscore", "7.1.2.7.12", from_day(2019, 4, 1), "tbsCertificate.extensions.subjectAltName"),
     DnsNameReservedLabel => must("dns_name_reserved_label", "7.1.2.7.12", from_day(2021, 10, 1), "tbsCertificate.extensions.subjectAltName"),
+    DnsNameXnLabelOther => must("dns_name_xn_label_other", "7.1.2.7.12", from_day(2021, 10, 1), "tbsCertificate.extensions.subjectAltName"),
     DnsNameWildcard => must("dns_name_wildcard", "7.1.2.7.12", None, "tbsCertificate.extensions.subjectAltName"),
     DnsNameOneLabel => must("dns_name_one_label", "7.1.2.7.12", from_day(2015, 11, 1), "tbsCertificate.extensions.subjectAltName"),
     DnsNameInternal => must("dns_name_internal", "7.1.2.7.12", from_day(2015, 11, 1), "tbsCertificate.extensions.subjectAltName"),
@@ -160,6 +165,7 @@ impl WebNameRule {
                 NameFault::ReservedLabel,
                 &values.subject_alt_name,
             ),
+            WebNameRule::DnsNameXnLabelOther => values.has_other_labels,
             WebNameRule::DnsNameWildcard => has_name(NameFault::Wildcard, &values.subject_alt_name),
             WebNameRule::DnsNameOneLabel => has_name(NameFault::OneLabel, &values.subject_alt_name),
             WebNameRule::DnsNameInternal => has_name(NameFault::Internal, &values.subject_alt_name),
