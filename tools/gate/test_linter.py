@@ -1361,11 +1361,14 @@ CERTIFICATE_RULES = (
 )
 USAGE = (
     "usage: x509_linter [certificate|crl|csr|anchor] [-v] [--json] [CHOICE..] [FILE..]\n"
-    "       x509_linter --web [-v] [--json] [CHOICE..] MOMENT [FILE..]\n"
+    "       x509_linter --web [--rfc] [-v] [--json] [CHOICE..] MOMENT [FILE..]\n"
 )
 WEB_HELP = """  --web                          tells which rules of the Baseline Requirements of the
                                  CA/Browser Forum certificates break, of those in force at
-                                 MOMENT, as 2026-03-15T00:00:00Z, or 2026-03-15 for that
+                                 MOMENT, as 2026-03-15T00:00:00Z, or 2026-03-15 for that, or
+                                 not-before for the notBefore of each certificate
+  --rfc                          with --web, tells of each certificate first which rules of RFC
+                                 5280 and the others it breaks
 """
 CHOICE_HELP = """  --only RULE, --without RULE    reports findings of these rules alone, or none of these; each
                                  may stand several times, and RULE is a name as it is printed
@@ -1632,6 +1635,7 @@ def at_moments(program):
         "1969-12-31T23:59:59Z",
         "2026-03-15t00:00:00z",
         "certificate",
+        "notBefore",
         "",
     ):
         found = ended(program, ["--web", text], data)
@@ -1663,6 +1667,107 @@ def at_moments(program):
         status, text, said = ended(program, ["--json", moment, *paths, "--web"])
         lines = text.splitlines(keepends=True)
         yield "several files with --web and --json", (status, said) == (1, "") and all(told(path, *finding) in lines for path in paths), text
+
+
+def at_not_before(program):
+    """For each run with `--web not-before` a name, whether it ended as stated, and how it ended."""
+    rule, line = "common_name_present", "certificate: warning common_name_present (TLS BR 7.1.2.7)\n"
+    early, late = (certificate(dates=sequence(begin, utc(b"240102030405Z"))) for begin in (utc(b"230914235959Z"), utc(b"230915000000Z")))
+    general_late = certificate(dates=sequence(general(b"20230915000000Z"), utc(b"240102030405Z")))
+    only = ["--only", rule]
+    for name, words, data, wanted in (
+        ("the second before a rule is in force", ["--web", *only, "not-before"], early, (0, "", "")),
+        ("the second at which a rule is in force", ["--web", *only, "not-before"], late, (0, line, "")),
+        ("that second as a GeneralizedTime", ["--web", *only, "not-before"], general_late, (0, line, "")),
+        ("--web behind not-before", ["not-before", "-", "--web", *only], late, (0, line, "")),
+        ("--web, -v and not-before", ["--web", "-v", *only, "not-before"], early, (0, "nothing found\n", "")),
+        ("--web, --count and not-before", ["--web", "--count", *only, "not-before"], late, (0, f"1 {line}", "")),
+        ("--web, --level and not-before", ["--web", "--level", "warning", *only, "not-before"], late, (1, line, "")),
+    ):
+        found = ended(program, words, data)
+        yield name, found == wanted, f"{found}, and not {wanted}"
+    status, text, said = ended(program, ["--web", "not-before"], certificate())
+    yield "all rules with not-before", (status, said) == (1, "") and set(text.splitlines()) >= {f"certificate: {it}" for it, _ in WEB_LINES}, text
+    for name, other in (("CRL", crl()), ("CSR", csr()), ("trust anchor", anchor())):
+        found = ended(program, ["--web", "not-before"], other)
+        wanted = (2, "", f"x509_linter: standard input: not a certificate in DER, PEM or hex{looks(other)}\n")
+        yield f"a {name} with not-before", found == wanted, found
+    with tempfile.TemporaryDirectory() as folder:
+        paths = [f"{folder}/{at}" for at in range(3)]
+        for path, data in zip(paths, (late, early, general_late)):
+            pathlib.Path(path).write_bytes(data)
+        found = ended(program, ["--web", *only, "not-before", *paths])
+        yield "several files with not-before", found == (0, f"{paths[0]}:\n{line}{paths[2]}:\n{line}", ""), found
+        status, text, said = ended(program, ["--web", "--json", *only, "not-before", *paths])
+        names = [(it["file"], it["rule"], it["severity"], it["section"]) for it in map(json.loads, text.splitlines())]
+        wanted = [(path, rule, "warning", "TLS BR 7.1.2.7") for path in (paths[0], paths[2])]
+        yield "several files with --json and not-before", (status, names, said) == (0, wanted, ""), text
+        found = ended(program, ["--web", *only, "not-before", paths[0], "not-before"])
+        said = "x509_linter: not-before: no such file\n"
+        yield "a file of that name", found == (2, f"{paths[0]}:\n{line}", said), found
+
+
+def by_both(program):
+    """For each run with `--web` and `--rfc` a name, whether it ended as stated, and how it ended."""
+    odd, moment = certificate(serial=integer(0)), "2026-03-15"
+    serial, alt, name = "serial_number_not_positive", "subject_alt_name_absent", "common_name_present"
+    bad, absent = f"certificate: error {serial} (RFC 5280 4.1.2.2)\n", f"certificate: error {alt} (TLS BR 7.1.2.7.12)\n"
+    weak = f"certificate: warning {name} (TLS BR 7.1.2.7)\n"
+    three = ["--only", name, "--only", alt, "--only", serial]
+    number = told("standard input", "certificate", serial, "error", "RFC 5280 4.1.2.2", "tbsCertificate.serialNumber", "00")
+    no_names = told("standard input", "certificate", alt, "error", "TLS BR 7.1.2.7.12", "tbsCertificate.extensions.subjectAltName")
+    for words, data, wanted in (
+        (["--web", "--rfc", *three, moment], odd, (1, bad + absent + weak)),
+        (["--rfc", "--web", *three, moment, "-"], odd, (1, bad + absent + weak)),
+        ([*three, moment, "--rfc", "-v", "--web"], odd, (1, bad + absent + weak)),
+        (["--web", "--rfc", *three, "not-before"], odd, (1, bad + absent + weak)),
+        (["--web", "--rfc", *three, "2023-09-14"], odd, (1, bad + absent)),
+        (["--web", "--rfc", *three, moment], certificate(), (1, absent + weak)),
+        (["--web", "--rfc", "--only", serial, moment], odd, (1, bad)),
+        (["--web", "--rfc", "--only", alt, moment], odd, (1, absent)),
+        (["--web", "--rfc", "--only", name, moment], odd, (0, weak)),
+        (["--web", "--rfc", *three, "--without", alt, "--without", serial, moment], odd, (0, weak)),
+        (["--web", "--rfc", "--level", "warning", "--only", name, moment], odd, (1, weak)),
+        (["--web", "--rfc", "--count", *three, moment], odd, (1, f"1 {bad}1 {absent}1 {weak}")),
+        (["--web", "--rfc", "--json", "--only", alt, "--only", serial, moment], odd, (1, number + no_names)),
+        (["-v", "--json", "--rfc", "--web", "--only", alt, "--only", serial, moment], odd, (1, number + no_names)),
+        (["-v", "--json", "--rfc", "--web", "--only", serial, moment], certificate(), (0, result("standard input", "nothing found"))),
+        (["--web", "--rfc", "-v", "--only", serial, moment], certificate(), (0, "nothing found\n")),
+        (["--web", "--rfc", "-v", "--only", "signature_of_sha1", moment], certificate(), (0, "nothing found\n")),
+        (["--web", "--rfc", "-v", "--only", "crl_number_absent", moment], certificate(), (0, "no rule applies\n")),
+    ):
+        found = ended(program, words, data)
+        yield f"the words {words}", found == (*wanted, ""), f"{found}, and not {wanted}"
+    status, text, said = ended(program, ["--web", "--rfc", moment], odd)
+    is_so = text.startswith(bad) and set(text.splitlines()[1:]) >= {f"certificate: {it}" for it, _ in WEB_LINES} and text.count("(RFC ") == 1
+    yield "all rules of both", (status, said) == (1, "") and is_so, text
+    for kind, other in (("CRL", crl()), ("CSR", csr()), ("trust anchor", anchor())):
+        found = ended(program, ["--web", "--rfc", moment], other)
+        wanted = (2, "", f"x509_linter: standard input: not a certificate in DER, PEM or hex{looks(other)}\n")
+        yield f"a {kind} by both", found == wanted, found
+    with tempfile.TemporaryDirectory() as folder:
+        paths = [f"{folder}/{at}" for at in range(3)]
+        for path, data in zip(paths, (odd, certificate(), crl())):
+            pathlib.Path(path).write_bytes(data)
+        found = ended(program, ["--web", "--rfc", "--only", alt, "--only", serial, moment, *paths])
+        text, said = f"{paths[0]}:\n{bad}{absent}{paths[1]}:\n{absent}", f"x509_linter: {paths[2]}: not a certificate in DER, PEM or hex{looks(crl())}\n"
+        yield "several files by both", found == (2, text, said), found
+    for words, what in (
+        (["--rfc"], "--rfc stands without --web"),
+        (["--rfc", "-v"], "--rfc stands without --web"),
+        (["--rfc", "--rfc"], "--rfc stands without --web"),
+        (["certificate", "--rfc", "--only", serial], "--rfc stands without --web"),
+        (["--rfc", "--count", "--json"], "--count prints no JSON"),
+        (["--web", "--rfc", "--count", "--json", moment], "--count prints no JSON"),
+        (["--web", "--rfc", "--rfc", moment], "stands twice: --rfc"),
+        (["--rfc", "--web", "--web", "--rfc", moment], "stands twice: --rfc"),
+        (["--web", "--rfc"], "--web stands without a moment"),
+        (["--web", "--rfc", "certificate"], "not a moment, as 2026-03-15T00:00:00Z is one: certificate"),
+        (["--web", "--rfc=yes", moment], "no such option: --rfc=yes"),
+        (["--web", "--rfc", "--only", "no_rule", moment], "no such rule: --only=no_rule"),
+    ):
+        found = ended(program, words, odd)
+        yield f"the words {words}", found == (2, "", f"x509_linter: {what}\n{USAGE}"), found
 
 
 def choices(program):
@@ -1810,6 +1915,8 @@ def alike(program):
     objects = [(certificate(), "", 0), (odd, line, 1), (crl(), "", 0), (csr(), "", 0), (anchor(), "", 0)]
     yield from refused(program)
     yield from at_moments(program)
+    yield from at_not_before(program)
+    yield from by_both(program)
     yield from choices(program)
     yield from verbose_json(program)
     yield from no_rule(program)

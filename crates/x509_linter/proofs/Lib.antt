@@ -1,3 +1,5 @@
+pub mod AtNotBefore
+pub mod Both
 pub mod Fronts
 pub mod JoinedWords
 pub mod KeptLines

@@ -8,12 +8,12 @@ use Rattle.x509_base.specs.TimeReading.{Reads, is_date_time, named_by_text}
 use Rattle.x509_base.specs.TimeText.{date_time_text}
 use Rattle.x509_der.specs.declared.error.Error.{Error}
 use Rattle.x509_der.specs.declared.error.ErrorKind.TheVariants.{Failed}
-use Rattle.x509_linter.specs.Linter.{moment_named, moment_of}
+use Rattle.x509_linter.specs.Linter.{date_time_named, date_time_with}
 
-named : (text : List ℕ) (m : CivilTime) → IsDateTime m → text ≡ date_time_text m → moment_named text m ≡ Some m
+named : (text : List ℕ) (m : CivilTime) → IsDateTime m → text ≡ date_time_text m → date_time_with text m ≡ Some m
 named text m h e = rw ((is_date_time-Decides m).1 h, (bytes_eq-Decides (date_time_text m) text).1 (sym e)) refl
 
-unnamed : (text : List ℕ) (m : CivilTime) → (IsDateTime m → text ≡ date_time_text m → ⊥) → moment_named text m ≡ None
+unnamed : (text : List ℕ) (m : CivilTime) → (IsDateTime m → text ≡ date_time_text m → ⊥) → date_time_with text m ≡ None
 unnamed text m bad =
     elim (cases_Bool (is_date_time m && bytes_eq (date_time_text m) text)) [
       | inl good ↦
@@ -22,11 +22,11 @@ unnamed text m bad =
       | inr other ↦ rw other refl
     ]
 
-pub read : (text : List ℕ) (m : CivilTime) → Reads IsDateTime date_time_text Failed text (Ok m) → moment_of text ≡ Some m
+pub read : (text : List ℕ) (m : CivilTime) → Reads IsDateTime date_time_text Failed text (Ok m) → date_time_named text ≡ Some m
 read text m h =
     let again : named_by_text text ≡ m = ap named_by_text h.found.1 ∙ named_by_text-text m h.found.0 in
-    ap (moment_named text) again ∙ named text m h.found.0 h.found.1
+    ap (date_time_with text) again ∙ named text m h.found.0 h.found.1
 
-pub unread : (text : List ℕ) (e : Error) → Reads IsDateTime date_time_text Failed text (Err e) → moment_of text ≡ None
+pub unread : (text : List ℕ) (e : Error) → Reads IsDateTime date_time_text Failed text (Err e) → date_time_named text ≡ None
 unread text e h =
     unnamed text (named_by_text text) (λ good same. let is = h.every (named_by_text text) good same in absurd cc)

@@ -1,11 +1,12 @@
 -- Bytes of which nothing is said are no object, whatever would stand in front of it.
 use Rattle.std.proofs.Common.{◌≡◌, ℕ, List, Option, Some, None, inl, inr}
-use Rattle.x509_base.specs.CivilTime.{CivilTime}
 use Rattle.x509_lint.specs.Report.{IsReport, IsSaidAs}
 use Rattle.x509_lint.specs.declared.report.Kind.{Kind}
 use Rattle.x509_lint.specs.declared.report.Kind.TheVariants.{Certificate, Crl, Csr, Anchor}
 use Rattle.x509_lint.specs.declared.report.Report.{Report}
-use Rattle.x509_linter.specs.Linter.{is_said, is_said_at}
+use Rattle.x509_linter.specs.Said.{is_said, is_said_by}
+use Rattle.x509_linter.specs.declared.said.Rules.{Rules}
+use Rattle.x509_linter.specs.declared.said.Rules.TheVariants.{Rfc, Web, Both}
 
 none_as : (kind : Kind) (front other : Option (List ℕ)) (bytes : List ℕ) → IsSaidAs kind front bytes None → IsSaidAs kind other bytes None
 unfolding IsSaidAs
@@ -31,6 +32,7 @@ said_none : (kind : Option Kind) (front other : Option (List ℕ)) (bytes : List
 said_none None front other bytes h = none_of_any front other bytes h
 said_none (Some kind) front other bytes h = none_as kind front other bytes h
 
-pub no_object : (web : Option CivilTime) (kind : Option Kind) (front other : Option (List ℕ)) (bytes : List ℕ) → is_said_at web kind front bytes None → is_said_at web kind other bytes None
-no_object None kind front other bytes h = said_none kind front other bytes h
-no_object (Some moment) kind front other bytes h = h
+pub no_object : (rules : Rules) (kind : Option Kind) (front other : Option (List ℕ)) (bytes : List ℕ) → is_said_by rules kind front bytes None → is_said_by rules kind other bytes None
+no_object Rfc kind front other bytes h = said_none kind front other bytes h
+no_object (Web moment) kind front other bytes h = h
+no_object (Both moment) kind front other bytes h = h

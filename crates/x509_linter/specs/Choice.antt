@@ -1,11 +1,12 @@
 -- Which findings are reported, and which of them count: what the options `--only`, `--without` and `--level` choose.
 use Rattle.std.specs.Prelude.{◌&&◌, ◌||◌, not, ℕ, Bool, true, false, List, [], ◌∷◌, ◌++◌, Option, Some, None, bytes_eq, codes, drop, length, nat_eq, if◌then◌else◌}
 use Rattle.std.specs.List.{flat_map, list_all, list_any, starts_with}
-use Rattle.x509_base.specs.CivilTime.{CivilTime}
 use Rattle.x509_lint.specs.declared.report.Kind.{Kind}
 use Rattle.x509_lint.specs.declared.report.Kind.TheVariants.{Certificate, Crl, Csr, Anchor}
 use Rattle.x509_linter.specs.Names.{anchor_rules, certificate_rules, crl_rules, csr_rules, is_rule, lines_of, web_rules}
 use Rattle.x509_object_run.specs.Words.{has_option}
+use Rattle.x509_linter.specs.declared.said.Rules.{Rules}
+use Rattle.x509_linter.specs.declared.said.Rules.TheVariants.{Rfc, Web, Both}
 use Rattle.x509_linter.specs.declared.values.Part.{Part}
 use Rattle.x509_linter.specs.declared.values.Part.TheVariants as parts
 
@@ -141,11 +142,12 @@ asks_of options Crl = any_picked options crl_rules
 asks_of options Csr = any_picked options csr_rules
 asks_of options Anchor = any_picked options certificate_rules || any_picked options anchor_rules
 
--- whether a rule is asked: with a moment one of the Baseline Requirements, else one on objects of this kind, or of some kind
-abbrev pub asks : List (List ℕ) → Option CivilTime → Option Kind → Bool
-asks options (Some moment) kind = any_picked options web_rules
-asks options None (Some kind) = asks_of options kind
-asks options None None = asks_of options Anchor || (asks_of options Crl || asks_of options Csr)
+-- whether a rule is asked: one of the Baseline Requirements, or one on certificates beside these, or one on objects of this kind, or of some kind
+abbrev pub asks : List (List ℕ) → Rules → Option Kind → Bool
+asks options (Web moment) kind = any_picked options web_rules
+asks options (Both moment) kind = any_picked options certificate_rules || any_picked options web_rules
+asks options Rfc (Some kind) = asks_of options kind
+asks options Rfc None = asks_of options Anchor || (asks_of options Crl || asks_of options Csr)
 
 abbrev pub is_of_level : List ℕ → List ℕ → Bool
 is_of_level name option = passes (bytes_eq name) (level_of option)

@@ -3,7 +3,8 @@ use Rattle.std.specs.Prelude.{◌≡◌, ℕ, Bool, true, false, List, Option, S
 use Rattle.x509_lint.specs.declared.report.Report.{Report}
 use Rattle.x509_linter.specs.Choice.{asks, has_count}
 use Rattle.x509_linter.specs.Lines.{has_counted, kept_text}
-use Rattle.x509_linter.specs.Linter.{IsNone, front_for, headed, is_said_at, json_front, no_object, refused, status_of, told}
+use Rattle.x509_linter.specs.Linter.{IsNone, front_for, headed, json_front, no_object, refused, status_of, told}
+use Rattle.x509_linter.specs.Said.{is_said_by}
 use Rattle.x509_linter.specs.declared.chosen.Chosen.{Chosen}
 use Rattle.x509_linter.specs.declared.chosen.Findings.{Findings}
 use Rattle.x509_linter.specs.declared.linter.Linter.{Linter}
@@ -29,14 +30,14 @@ IsChosen telling options heading text findings =
 -- of what is said of an object
 abbrev pub AreFindings : Linter → List (List ℕ) → List ℕ → List ℕ → Findings → Type 0
 AreFindings linter options heading bytes findings =
-    (report : Report) × is_said_at linter.web linter.kind (front_for linter.telling heading) bytes (Some report)
+    (report : Report) × is_said_by linter.rules linter.kind (front_for linter.telling heading) bytes (Some report)
     × IsChosen linter.telling options heading (string_bytes report.text) findings
 
 -- the lines that options choose of the report on bytes, and 1 where one of them counts
 abbrev pub Tells : Linter → List (List ℕ) → List ℕ → List ℕ → List ℕ → ℕ → Type 0
 Tells linter options heading bytes text status =
-    (report : Report) × is_said_at linter.web linter.kind (front_for linter.telling heading) bytes (Some report)
-    × (text ≡ told linter.telling (asks options linter.web linter.kind) heading (kept_text options (front_length linter.telling heading) (string_bytes report.text)))
+    (report : Report) × is_said_by linter.rules linter.kind (front_for linter.telling heading) bytes (Some report)
+    × (text ≡ told linter.telling (asks options linter.rules linter.kind) heading (kept_text options (front_length linter.telling heading) (string_bytes report.text)))
     × (status ≡ status_of (has_counted options (front_length linter.telling heading) (string_bytes report.text)))
 
 -- what stands above the lines of an input: nothing where they are summed up

@@ -5,4 +5,5 @@ pub mod Lines
 pub mod Linter
 pub mod Names
 pub mod Run
+pub mod Said
 pub mod Summary

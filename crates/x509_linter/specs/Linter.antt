@@ -1,18 +1,22 @@
 -- What the program prints of the bytes of an object, and what its words ask for.
 use Rattle.std.specs.Prelude.{◌≡◌, ◌&&◌, ◌||◌, not, ℕ, Bool, true, false, List, [], ◌∷◌, ◌++◌, Option, Some, None, Result, Ok, Err, bytes_eq, codes, string_bytes, if◌then◌else◌}
+use Rattle.std.specs.List.{list_all}
 use Rattle.std.specs.Option.{option_map}
 use Rattle.x509_base.specs.CivilTime.{CivilTime}
 use Rattle.x509_base.specs.TimeReading.{is_date_time, named_by_text}
 use Rattle.x509_base.specs.TimeText.{date_time_text}
-use Rattle.x509_lint_web.specs.Report.{IsWebSaid}
-use Rattle.x509_lint.specs.Report.{IsReport, IsSaidAs}
 use Rattle.x509_lint.specs.declared.report.Kind.{Kind}
 use Rattle.x509_lint.specs.declared.report.Kind.TheVariants.{Certificate, Crl, Csr, Anchor}
 use Rattle.x509_lint.specs.declared.report.Report.{Report}
 use Rattle.x509_linter.specs.Choice.{are_mixed, is_choice, is_right, names_rules, takes_value}
+use Rattle.x509_linter.specs.Said.{is_said_by}
 use Rattle.x509_linter.specs.declared.linter.Linter.{Linter}
 use Rattle.x509_linter.specs.declared.linter.Telling.{Telling}
 use Rattle.x509_linter.specs.declared.linter.Telling.TheVariants.{Lines, Verbose, Json, VerboseJson}
+use Rattle.x509_linter.specs.declared.said.Moment.{Moment}
+use Rattle.x509_linter.specs.declared.said.Moment.TheVariants.{At, NotBefore}
+use Rattle.x509_linter.specs.declared.said.Rules.{Rules}
+use Rattle.x509_linter.specs.declared.said.Rules.TheVariants.{Rfc, Web, Both}
 use Rattle.x509_object_run.specs.Faults.{fault_text}
 use Rattle.x509_object_run.specs.Labels.{word_label}
 use Rattle.x509_object_run.specs.Object.{Steps, Subject}
@@ -40,27 +44,57 @@ kind_of word =
     else if bytes_eq word (codes "anchor") then Some Anchor
     else None
 
+-- an option that asks for the Baseline Requirements, and one that asks for the rules of RFC 5280 and the others beside these
+abbrev pub is_web : List ℕ → Bool
+is_web option = bytes_eq option (codes "--web")
+
+abbrev pub is_rfc : List ℕ → Bool
+is_rfc option = bytes_eq option (codes "--rfc")
+
 -- `-v`: whether it is said of an object that nothing was found; `--json`: objects of JSON
-abbrev pub telling_named : List ℕ → Option Telling
-telling_named option = if bytes_eq option (codes "-v") then Some Verbose else if bytes_eq option (codes "--json") then Some Json else None
+abbrev pub is_verbose : List ℕ → Bool
+is_verbose option = bytes_eq option (codes "-v")
 
--- `-v` and `--json`, in either order
-abbrev pub telling_of_both : List ℕ → List ℕ → Option Telling
-telling_of_both first second =
-    if (bytes_eq first (codes "-v") && bytes_eq second (codes "--json")) || (bytes_eq first (codes "--json") && bytes_eq second (codes "-v")) then Some VerboseJson
-    else None
+abbrev pub is_json : List ℕ → Bool
+is_json option = bytes_eq option (codes "--json")
 
-abbrev pub telling_of : List (List ℕ) → Option Telling
-telling_of [] = Some Lines
-telling_of (option ∷ []) = telling_named option
-telling_of (first ∷ second ∷ []) = telling_of_both first second
-telling_of (first ∷ second ∷ third ∷ options) = None
+-- one of these
+abbrev pub asks_something : List ℕ → Bool
+asks_something option = is_web option || (is_rfc option || (is_verbose option || is_json option))
+
+-- whether each of these options stands once
+abbrev pub are_single : List (List ℕ) → Bool
+are_single [] = true
+are_single (option ∷ options) = not (has_option option options) && are_single options
+
+abbrev pub has_web : List (List ℕ) → Bool
+has_web options = has_option (codes "--web") options
+
+abbrev pub has_rfc : List (List ℕ) → Bool
+has_rfc options = has_option (codes "--rfc") options
+
+-- rules of RFC 5280 and the others are asked beside none
+abbrev pub is_rfc_alone : List (List ℕ) → Bool
+is_rfc_alone options = has_rfc options && not (has_web options)
+
+-- options that ask for something, in any order
+abbrev pub are_asking : List (List ℕ) → Bool
+are_asking options = (list_all asks_something options && are_single options) && not (is_rfc_alone options)
+
+abbrev pub telling_by : Bool → Bool → Telling
+telling_by false false = Lines
+telling_by true false = Verbose
+telling_by false true = Json
+telling_by true true = VerboseJson
+
+abbrev pub telling_of : List (List ℕ) → Telling
+telling_of options = telling_by (has_option (codes "-v") options) (has_option (codes "--json") options)
 
 abbrev pub of_kind : Telling → Kind → Linter
-of_kind telling kind = record { kind = Some kind; telling = telling; web = None }
+of_kind telling kind = record { kind = Some kind; telling = telling; rules = Rfc }
 
 abbrev pub of_any_kind : Telling → Linter
-of_any_kind telling = record { kind = None; telling = telling; web = None }
+of_any_kind telling = record { kind = None; telling = telling; rules = Rfc }
 
 -- the first name, which may be a kind's, and the others
 abbrev pub asked_with : Telling → Option Kind → List ℕ → List (List ℕ) → Linter × List (List ℕ)
@@ -73,45 +107,42 @@ asked_of telling [] = (of_any_kind telling, [])
 asked_of telling (name ∷ names) = asked_with telling (kind_of name) name names
 
 -- the date-time with this text, `YYYY-MM-DDTHH:MM:SSZ`
-abbrev pub moment_named : List ℕ → CivilTime → Option CivilTime
-moment_named text m = if is_date_time m && bytes_eq (date_time_text m) text then Some m else None
+abbrev pub date_time_with : List ℕ → CivilTime → Option CivilTime
+date_time_with text m = if is_date_time m && bytes_eq (date_time_text m) text then Some m else None
 
-abbrev pub moment_of : List ℕ → Option CivilTime
-moment_of text = moment_named text (named_by_text text)
+abbrev pub date_time_named : List ℕ → Option CivilTime
+date_time_named text = date_time_with text (named_by_text text)
 
-abbrev pub web_at : Telling → List (List ℕ) → Option CivilTime → Option (Linter × List (List ℕ))
-web_at telling names None = None
-web_at telling names (Some moment) = Some (record { kind = Some Certificate; telling = telling; web = Some moment }, names)
+abbrev pub is_not_before : List ℕ → Bool
+is_not_before word = bytes_eq word (codes "not-before")
+
+-- the moment that a word names: that of each certificate's notBefore, or a date-time
+abbrev pub moment_of : List ℕ → Option Moment
+moment_of word = if is_not_before word then Some NotBefore else option_map At (date_time_named word)
+
+-- the rules of the Baseline Requirements at a moment, and those of RFC 5280 and the others where they are asked beside
+abbrev pub rules_at : Bool → Moment → Rules
+rules_at true moment = Both moment
+rules_at false moment = Web moment
+
+abbrev pub web_at : Bool → Telling → List (List ℕ) → Option Moment → Option (Linter × List (List ℕ))
+web_at both telling names None = None
+web_at both telling names (Some moment) = Some (record { kind = Some Certificate; telling = telling; rules = rules_at both moment }, names)
 
 -- a moment in front of the names of inputs, which are certificates
-abbrev pub web_of : Telling → List (List ℕ) → Option (Linter × List (List ℕ))
-web_of telling [] = None
-web_of telling (moment ∷ names) = web_at telling names (moment_of moment)
+abbrev pub web_of : Bool → Telling → List (List ℕ) → Option (Linter × List (List ℕ))
+web_of both telling [] = None
+web_of both telling (moment ∷ names) = web_at both telling names (moment_of moment)
 
-abbrev pub is_web : List ℕ → Bool
-is_web option = bytes_eq option (codes "--web")
-
--- `--web`, alone or somewhere among the others
-abbrev pub web_telling_of : List (List ℕ) → Option Telling
-web_telling_of [] = None
-web_telling_of (option ∷ []) = if is_web option then Some Lines else None
-web_telling_of (first ∷ second ∷ []) = if is_web first then telling_named second else if is_web second then telling_named first else None
-web_telling_of (first ∷ second ∷ third ∷ []) =
-    if is_web first then telling_of_both second third
-    else if is_web second then telling_of_both first third
-    else if is_web third then telling_of_both first second
-    else None
-web_telling_of (first ∷ second ∷ third ∷ fourth ∷ options) = None
-
-abbrev pub asked_by : Option Telling → List (List ℕ) → List (List ℕ) → Option (Linter × List (List ℕ))
-asked_by (Some telling) options names = web_of telling names
-asked_by None options names = option_map (λ telling. asked_of telling names) (telling_of options)
+abbrev pub asked_by : List (List ℕ) → List (List ℕ) → Option (Linter × List (List ℕ))
+asked_by options names =
+    if has_web options then web_of (has_rfc options) (telling_of options) names else Some (asked_of (telling_of options) names)
 
 abbrev pub asked : List (List ℕ) → List (List ℕ) → Option (Linter × List (List ℕ))
-asked options names = asked_by (web_telling_of options) options names
+asked options names = if are_asking options then asked_by options names else None
 
 -- of a word that has to be a moment it is told that it is none
-abbrev pub moment_misuse : List ℕ → Option CivilTime → List ℕ
+abbrev pub moment_misuse : List ℕ → Option Moment → List ℕ
 moment_misuse word (Some moment) = []
 moment_misuse word None = codes "x509_linter: not a moment, as 2026-03-15T00:00:00Z is one: " ++ (word_label word ++ codes "\n")
 
@@ -121,7 +152,7 @@ web_misuse (word ∷ names) = moment_misuse word (moment_of word)
 
 -- an option that may stand among others
 abbrev pub is_known : List ℕ → Bool
-is_known option = is_web option || (bytes_eq option (codes "-v") || (bytes_eq option (codes "--json") || is_right option))
+is_known option = asks_something option || is_right option
 
 -- what is told in front of another
 abbrev pub wrong_told : List ℕ → List ℕ
@@ -137,9 +168,12 @@ repeat_misuse [] = []
 repeat_misuse (option ∷ options) =
     if has_option option options then codes "x509_linter: stands twice: " ++ (word_label option ++ codes "\n") else repeat_misuse options
 
--- where each may stand among others, of a summary in JSON, or of one that stands twice
+-- where each may stand among others, of a summary in JSON, of rules that are asked beside none, or of one that stands twice
 abbrev pub end_misuse : List (List ℕ) → List ℕ
-end_misuse options = if are_mixed options then codes "x509_linter: --count prints no JSON\n" else repeat_misuse options
+end_misuse options =
+    if are_mixed options then codes "x509_linter: --count prints no JSON\n"
+    else if is_rfc_alone options then codes "x509_linter: --rfc stands without --web\n"
+    else repeat_misuse options
 
 -- of the first option that may not stand among others it is told why
 abbrev pub wrong_misuse : List (List ℕ) → List (List ℕ) → List ℕ
@@ -150,22 +184,18 @@ wrong_misuse all (option ∷ options) =
 abbrev pub option_misuse : List (List ℕ) → List ℕ
 option_misuse options = wrong_misuse options options
 
-abbrev pub misuse_by : Option Telling → List (List ℕ) → List (List ℕ) → List ℕ
-misuse_by (Some telling) options names = web_misuse names
-misuse_by None options names = option_misuse options
-
 -- what is told of words that ask for nothing
 abbrev pub misuse : List (List ℕ) → List (List ℕ) → List ℕ
-misuse options names = misuse_by (web_telling_of options) options names
+misuse options names = if are_asking options && has_web options then web_misuse names else option_misuse options
 
 -- ---- what the program says of itself
 
 abbrev pub usage : List ℕ
-usage = codes "usage: x509_linter [certificate|crl|csr|anchor] [-v] [--json] [CHOICE..] [FILE..]\n       x509_linter --web [-v] [--json] [CHOICE..] MOMENT [FILE..]"
+usage = codes "usage: x509_linter [certificate|crl|csr|anchor] [-v] [--json] [CHOICE..] [FILE..]\n       x509_linter --web [--rfc] [-v] [--json] [CHOICE..] MOMENT [FILE..]"
 
 abbrev pub help : List ℕ
 help =
-    codes "usage: x509_linter [certificate|crl|csr|anchor] [-v] [--json] [CHOICE..] [FILE..]\n       x509_linter --web [-v] [--json] [CHOICE..] MOMENT [FILE..]\n\n"
+    codes "usage: x509_linter [certificate|crl|csr|anchor] [-v] [--json] [CHOICE..] [FILE..]\n       x509_linter --web [--rfc] [-v] [--json] [CHOICE..] MOMENT [FILE..]\n\n"
     ++ codes "Tells which rules certificates, CRLs (RFC 5280), CSRs (RFC 2986, 2985) and trust anchors\n"
     ++ codes "(RFC 5914) break, in DER, PEM or hex: a line for each, with its section. Of PEM each object is\n"
     ++ codes "told of by itself. Without a FILE, and where FILE is -, it reads standard input.\n\n"
@@ -173,7 +203,10 @@ help =
     ++ codes "                                 of them, in this order\n"
     ++ codes "  --web                          tells which rules of the Baseline Requirements of the\n"
     ++ codes "                                 CA/Browser Forum certificates break, of those in force at\n"
-    ++ codes "                                 MOMENT, as 2026-03-15T00:00:00Z, or 2026-03-15 for that\n"
+    ++ codes "                                 MOMENT, as 2026-03-15T00:00:00Z, or 2026-03-15 for that, or\n"
+    ++ codes "                                 not-before for the notBefore of each certificate\n"
+    ++ codes "  --rfc                          with --web, tells of each certificate first which rules of RFC\n"
+    ++ codes "                                 5280 and the others it breaks\n"
     ++ codes "  -v                             says so where nothing is found, or where no rule applies\n"
     ++ codes "  --json                         prints an object of JSON for each finding; with -v also where\n"
     ++ codes "                                 nothing is found or an input is refused\n"
@@ -226,16 +259,6 @@ front_for Lines name = None
 front_for Verbose name = None
 front_for Json name = Some (json_front name)
 front_for VerboseJson name = Some (json_front name)
-
--- what is said of the object that was asked for
-abbrev pub is_said : Option Kind → Option (List ℕ) → List ℕ → Option Report → Type 0
-is_said None front bytes said = IsReport front bytes said
-is_said (Some kind) front bytes said = IsSaidAs kind front bytes said
-
--- with a moment what is said of a certificate by the rules of the Baseline Requirements
-abbrev pub is_said_at : Option CivilTime → Option Kind → Option (List ℕ) → List ℕ → Option Report → Type 0
-is_said_at None kind front bytes said = is_said kind front bytes said
-is_said_at (Some moment) kind front bytes said = IsWebSaid front moment bytes said
 
 -- what is said of an object of which nothing is found, where a rule was asked or none was
 abbrev pub clean_words : Bool → List ℕ
@@ -298,11 +321,11 @@ IsPut takes old text new (Err NoObject) = ⊥
 -- what is told of the report on bytes
 abbrev pub Tells : Linter → List ℕ → List ℕ → List ℕ → ℕ → Type 0
 Tells linter heading bytes text status =
-    (report : Report) × is_said_at linter.web linter.kind (front_for linter.telling heading) bytes (Some report)
+    (report : Report) × is_said_by linter.rules linter.kind (front_for linter.telling heading) bytes (Some report)
     × (text ≡ told linter.telling true heading (string_bytes report.text)) × (status ≡ status_of report.has_error)
 
 abbrev pub IsNone : Linter → List ℕ → Type 0
-IsNone linter bytes = is_said_at linter.web linter.kind None bytes None
+IsNone linter bytes = is_said_by linter.rules linter.kind None bytes None
 
 abbrev pub subject : Linter → Subject
 subject linter = record {

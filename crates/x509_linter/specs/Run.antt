@@ -1,10 +1,9 @@
 -- What the program does, from its words to its status.
-use Rattle.std.specs.List.{list_any}
-use Rattle.std.specs.Prelude.{◌⊎◌, ℕ, Bool, true, false, List, [], ◌∷◌, ◌++◌, ◌==◌, Option, Some, None, codes, length, if◌then◌else◌}
+use Rattle.std.specs.Prelude.{◌⊎◌, ◌&&◌, not, ℕ, Bool, true, false, List, [], ◌∷◌, ◌++◌, ◌==◌, Option, Some, None, codes, length, if◌then◌else◌}
 use Rattle.x509_linter.specs.Choice.{choose, has_count, plain_options}
 use Rattle.x509_linter.specs.Chosen.{chosen_subject}
 use Rattle.x509_linter.specs.Count.{IsCounted}
-use Rattle.x509_linter.specs.Linter.{asked, is_web, misuse, program, subject}
+use Rattle.x509_linter.specs.Linter.{asked, has_web, is_not_before, misuse, program, subject}
 use Rattle.x509_linter.specs.declared.linter.Linter.{Linter}
 use Rattle.x509_object_run.specs.Object.{Subject}
 use Rattle.x509_object_run.specs.Program.{AreDone, IsUnkept, Streams, World, are_headed, call_from}
@@ -38,12 +37,13 @@ IsObeyed world options names old new status = IsAsked world options names (chose
 abbrev pub IsTried : {R F W E : Type 0} → World R F W E → List (List ℕ) → List (List ℕ) → Streams R W E → Streams R W E → ℕ → Type 0
 IsTried world options names old new status = IsObeyed world options names old new status ⊎ IsUnkept program world.takes_errors old new status
 
-abbrev pub has_web : List (List ℕ) → Bool
-has_web options = list_any is_web options
+-- whether a word has as many characters as a date, `YYYY-MM-DD`, and doesn't name notBefore
+abbrev pub is_date : List ℕ → Bool
+is_date word = (length word == 10) && not (is_not_before word)
 
 -- the text of a moment: of a date alone that of midnight
 abbrev pub moment_text : List ℕ → List ℕ
-moment_text text = if length text == 10 then text ++ codes "T00:00:00Z" else text
+moment_text word = if is_date word then word ++ codes "T00:00:00Z" else word
 
 abbrev pub with_moment : List (List ℕ) → List (List ℕ)
 with_moment [] = []

@@ -8,8 +8,8 @@ ghost use Rattle.x509_linter.specs.Names.{is_rule};
 ghost use Rattle.x509_object_run.specs.Words.{has_option};
 
 use crate::names::{anchor_rules, certificate_rules, crl_rules, csr_rules, is_rule, web_rules};
+use crate::said::Rules;
 use std::alloc::{AllocError, Global};
-use x509_base::DateTime;
 use x509_lint::Kind;
 
 /// What stands behind this front of an option.
@@ -292,14 +292,17 @@ fn asks_of(options: &[&str], kind: Kind) -> bool
     }
 }
 
-/// Whether a rule is asked: with a moment one of the Baseline Requirements, else one on objects of this kind, or of some kind.
-pub(crate) fn asks(options: &[&str], web: Option<DateTime>, kind: Option<Kind>) -> bool
-    ensures { result ≡ grammar.asks (map (λ option. option.now) options.now) web kind }
+/// Whether a rule is asked: one of the Baseline Requirements, or one on certificates beside these, or one on objects of this kind, or of some kind.
+pub(crate) fn asks(options: &[&str], rules: Rules, kind: Option<Kind>) -> bool
+    ensures { result ≡ grammar.asks (map (λ option. option.now) options.now) rules kind }
 {
-    match (web, kind) {
-        (Some(_), _) => any_picked(options, web_rules()),
-        (None, Some(kind)) => asks_of(options, kind),
-        (None, None) => {
+    match (rules, kind) {
+        (Rules::Web(_), _) => any_picked(options, web_rules()),
+        (Rules::Both(_), _) => {
+            any_picked(options, certificate_rules()) || any_picked(options, web_rules())
+        }
+        (Rules::Rfc, Some(kind)) => asks_of(options, kind),
+        (Rules::Rfc, None) => {
             asks_of(options, Kind::Anchor)
                 || (asks_of(options, Kind::Crl) || asks_of(options, Kind::Csr))
         }

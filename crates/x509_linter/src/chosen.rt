@@ -3,7 +3,8 @@
 ghost use Rattle.std.specs.Prelude.{◌≡◌, IfErr, IfOk, MatchOption, None, map};
 ghost use Rattle.x509_der.specs.declared.error.ErrorKind.TheVariants as errors;
 ghost use Rattle.x509_linter.specs.Chosen.{AreFindings, IsChosen, front_length};
-ghost use Rattle.x509_linter.specs.Linter.{front_for, is_said_at};
+ghost use Rattle.x509_linter.specs.Linter.{front_for};
+ghost use Rattle.x509_linter.specs.Said.{is_said_by};
 ghost use Rattle.x509_object_run.specs.Object.{heading_text};
 
 use crate::choice::{asks, has_count};
@@ -80,7 +81,7 @@ fn findings_of(
     bytes: &[u8],
 ) -> Result<Option<Findings>, Error>
     ensures ok { IfOk result (λ found. MatchOption found
-        (is_said_at linter.web linter.kind (front_for linter.telling (heading_text heading.entry)) bytes.now None)
+        (is_said_by linter.rules linter.kind (front_for linter.telling (heading_text heading.entry)) bytes.now None)
         (AreFindings linter (map (λ option. option.now) options.now) (heading_text heading.entry) bytes.now)) }
     ensures err { IfErr result (λ e. e.kind ≡ errors.Memory) }
 {
@@ -140,8 +141,12 @@ impl Printer for Chosen<'_> {
     ) -> Result<u8, PrintError> {
         match findings_of(alloc, self.linter, self.options, heading, bytes) {
             Ok(Some(findings)) => {
-                let Linter { kind, telling, web } = self.linter;
-                let is_asked = asks(self.options, web, kind);
+                let Linter {
+                    kind,
+                    telling,
+                    rules,
+                } = self.linter;
+                let is_asked = asks(self.options, rules, kind);
                 let text = findings.text.as_slice();
                 match tell(alloc, telling, is_asked, heading, text, writer) {
                     Ok(()) => Ok(status_of(findings.counts)),

@@ -1,22 +1,22 @@
 //! What the program prints of an object.
 
+ghost use Rattle.std.specs.List.{list_all};
 ghost use Rattle.std.specs.Option.{option_map};
 ghost use Rattle.std.specs.Prelude.{◌≡◌, ◌++◌, ◌∷◌, [], IfErr, IfOk, List, Some, map, string_bytes};
-ghost use Rattle.x509_lint.specs.Report.{front_of};
-ghost use Rattle.x509_lint_web.specs.Report.{IsWebSaid};
 ghost use Rattle.x509_linter.specs.Linter as grammar;
+ghost use Rattle.x509_linter.specs.Said.{is_said_by};
 ghost use Rattle.x509_der.specs.declared.error.ErrorKind.TheVariants as errors;
 ghost use Rattle.x509_object_run.specs.Object.{heading_text};
 ghost use Rattle.x509_tool_run.specs.Answer.{as_line};
 
 use crate::choice::{are_mixed, is_among, is_choice, is_right, names_rules};
+use crate::said::{Moment, Rules, said_by};
 use crate::values::takes_value;
 use std::alloc::{AllocError, Global};
 use std::str::FromStr;
 use x509_base::DateTime;
-use x509_der::{Error, ErrorKind};
-use x509_lint::{Kind, Report, Style, lint_bytes, lint_kind};
-use x509_lint_web::lint_web_bytes;
+use x509_der::Error;
+use x509_lint::{Kind, Report, Style};
 use x509_object_run::{
     Asked, Fault, Headed, Heading, PrintError, Printer, fault_words, word_label, write_headed,
 };
@@ -25,7 +25,7 @@ use x509_tool_run::{Sink, WriteError, write_text};
 
 const HELP: &[u8] =
     b"usage: x509_linter [certificate|crl|csr|anchor] [-v] [--json] [CHOICE..] [FILE..]
-       x509_linter --web [-v] [--json] [CHOICE..] MOMENT [FILE..]
+       x509_linter --web [--rfc] [-v] [--json] [CHOICE..] MOMENT [FILE..]
 
 Tells which rules certificates, CRLs (RFC 5280), CSRs (RFC 2986, 2985) and trust anchors
 (RFC 5914) break, in DER, PEM or hex: a line for each, with its section. Of PEM each object is
@@ -35,7 +35,10 @@ told of by itself. Without a FILE, and where FILE is -, it reads standard input.
                                  of them, in this order
   --web                          tells which rules of the Baseline Requirements of the
                                  CA/Browser Forum certificates break, of those in force at
-                                 MOMENT, as 2026-03-15T00:00:00Z, or 2026-03-15 for that
+                                 MOMENT, as 2026-03-15T00:00:00Z, or 2026-03-15 for that, or
+                                 not-before for the notBefore of each certificate
+  --rfc                          with --web, tells of each certificate first which rules of RFC
+                                 5280 and the others it breaks
   -v                             says so where nothing is found, or where no rule applies
   --json                         prints an object of JSON for each finding; with -v also where
                                  nothing is found or an input is refused
@@ -70,12 +73,12 @@ pub(crate) enum Telling {
     VerboseJson,
 }
 
-/// What the words ask for: how findings are told, of objects of one kind or of any; with a moment, by the rules of the Baseline Requirements.
+/// What the words ask for: how findings are told, of objects of one kind or of any, and by which rules.
 #[derive(Clone, Copy, Debug, PartialEq, Eq)]
 pub(crate) struct Linter {
     pub(crate) kind: Option<Kind>,
     pub(crate) telling: Telling,
-    pub(crate) web: Option<DateTime>,
+    pub(crate) rules: Rules,
 }
 
 /// The kind of object that a word names.
@@ -91,38 +94,86 @@ fn kind_of(word: &str) -> Option<Kind>
     }
 }
 
-/// How findings are told that an option asks for.
-fn telling_named(option: &str) -> Option<Telling>
-    ensures { result ≡ grammar.telling_named option.now }
+/// Whether an option is one that asks for something.
+fn asks_something(option: &str) -> bool
+    ensures { result ≡ grammar.asks_something option.now }
 {
-    match option {
-        "-v" => Some(Telling::Verbose),
-        "--json" => Some(Telling::Json),
-        _ => None,
-    }
+    option == "--web" || (option == "--rfc" || (option == "-v" || option == "--json"))
 }
 
-/// How findings are told that two options ask for.
-fn telling_of_both(first: &str, second: &str) -> Option<Telling>
-    ensures { result ≡ grammar.telling_of_both first.now second.now }
+/// Whether each of the options is.
+fn all_ask(options: &[&str]) -> bool
+    ensures { result ≡ list_all grammar.asks_something (map (λ option. option.now) options.now) }
 {
-    if (first == "-v" && second == "--json") || (first == "--json" && second == "-v") {
-        Some(Telling::VerboseJson)
-    } else {
-        None
+    let mut rest = options;
+    while let [option, others @ ..] = rest {
+        if !asks_something(option) {
+            return false;
+        }
+        rest = others;
+    }
+    true
+}
+
+/// Whether each of the options stands once.
+fn are_single(options: &[&str]) -> bool
+    ensures { result ≡ grammar.are_single (map (λ option. option.now) options.now) }
+{
+    let mut rest = options;
+    while let [option, others @ ..] = rest {
+        if is_among(option, others) {
+            return false;
+        }
+        rest = others;
+    }
+    true
+}
+
+/// Whether options ask for the Baseline Requirements.
+pub(crate) fn has_web(options: &[&str]) -> bool
+    ensures { result ≡ grammar.has_web (map (λ option. option.now) options.now) }
+{
+    is_among("--web", options)
+}
+
+/// Whether options ask for the rules of RFC 5280 and the others beside these.
+fn has_rfc(options: &[&str]) -> bool
+    ensures { result ≡ grammar.has_rfc (map (λ option. option.now) options.now) }
+{
+    is_among("--rfc", options)
+}
+
+/// Whether they ask for these beside none.
+fn is_rfc_alone(options: &[&str]) -> bool
+    ensures { result ≡ grammar.is_rfc_alone (map (λ option. option.now) options.now) }
+{
+    has_rfc(options) && !has_web(options)
+}
+
+/// Whether options ask for something, in any order.
+fn are_asking(options: &[&str]) -> bool
+    ensures { result ≡ grammar.are_asking (map (λ option. option.now) options.now) }
+{
+    (all_ask(options) && are_single(options)) && !is_rfc_alone(options)
+}
+
+/// How findings are told, where it is said too that nothing was found or isn't, in objects of JSON or not.
+fn telling_by(is_verbose: bool, is_json: bool) -> Telling
+    ensures { result ≡ grammar.telling_by is_verbose is_json }
+{
+    match (is_verbose, is_json) {
+        (false, false) => Telling::Lines,
+        (true, false) => Telling::Verbose,
+        (false, true) => Telling::Json,
+        (true, true) => Telling::VerboseJson,
     }
 }
 
 /// How findings are told that options ask for.
-fn telling_of(options: &[&str]) -> Option<Telling>
+fn telling_of(options: &[&str]) -> Telling
     ensures { result ≡ grammar.telling_of (map (λ option. option.now) options.now) }
 {
-    match options {
-        [] => Some(Telling::Lines),
-        [option] => telling_named(option),
-        [first, second] => telling_of_both(first, second),
-        _ => None,
-    }
+    telling_by(is_among("-v", options), is_among("--json", options))
 }
 
 /// What names ask for, the first of which may be a kind's, and the names of inputs among them.
@@ -135,7 +186,7 @@ fn asked_of<'a, 'b>(telling: Telling, names: &'a [&'b str]) -> (Linter, &'a [&'b
                 Linter {
                     kind: Some(kind),
                     telling,
-                    web: None,
+                    rules: Rules::Rfc,
                 },
                 others,
             );
@@ -145,51 +196,15 @@ fn asked_of<'a, 'b>(telling: Telling, names: &'a [&'b str]) -> (Linter, &'a [&'b
         Linter {
             kind: None,
             telling,
-            web: None,
+            rules: Rules::Rfc,
         },
         names,
     )
 }
 
-/// Whether an option asks for the Baseline Requirements.
-pub(crate) fn is_web(option: &str) -> bool
-    ensures { result ≡ grammar.is_web option.now }
-{
-    option == "--web"
-}
-
-/// How findings are told that three options ask for of which one is `--web`.
-fn web_telling_of_three(first: &str, second: &str, third: &str) -> Option<Telling>
-    ensures { result ≡ grammar.web_telling_of (first.now ∷ second.now ∷ third.now ∷ []) }
-{
-    if is_web(first) {
-        return telling_of_both(second, third);
-    }
-    if is_web(second) {
-        return telling_of_both(first, third);
-    }
-    if is_web(third) {
-        return telling_of_both(first, second);
-    }
-    None
-}
-
-/// How findings are told that options ask for of which one is `--web`; `None` where none is, or they ask for nothing.
-fn web_telling_of(options: &[&str]) -> Option<Telling>
-    ensures { result ≡ grammar.web_telling_of (map (λ option. option.now) options.now) }
-{
-    match options {
-        [option] if is_web(option) => Some(Telling::Lines),
-        [first, second] if is_web(first) => telling_named(second),
-        [first, second] if is_web(second) => telling_named(first),
-        [first, second, third] => web_telling_of_three(first, second, third),
-        _ => None,
-    }
-}
-
-/// The moment that a text names, as `2026-03-15T00:00:00Z`.
-fn moment_of(text: &str) -> Option<DateTime>
-    ensures { result ≡ grammar.moment_of text.now }
+/// The date-time that a text names, as `2026-03-15T00:00:00Z`.
+fn date_time_named(text: &str) -> Option<DateTime>
+    ensures { result ≡ grammar.date_time_named text.now }
 {
     match DateTime::from_str(text) {
         Ok(moment) => Some(moment),
@@ -197,9 +212,44 @@ fn moment_of(text: &str) -> Option<DateTime>
     }
 }
 
+/// Whether a word names the notBefore of each certificate.
+pub(crate) fn is_not_before(word: &str) -> bool
+    ensures { result ≡ grammar.is_not_before word.now }
+{
+    word == "not-before"
+}
+
+/// The moment that a word names: that of the notBefore of each certificate, or a date-time.
+fn moment_of(word: &str) -> Option<Moment>
+    ensures { result ≡ grammar.moment_of word.now }
+{
+    if is_not_before(word) {
+        return Some(Moment::NotBefore);
+    }
+    match date_time_named(word) {
+        Some(moment) => Some(Moment::At(moment)),
+        None => None,
+    }
+}
+
+/// The rules of the Baseline Requirements at a moment, and those of RFC 5280 and the others where they are asked beside.
+fn rules_at(is_both: bool, moment: Moment) -> Rules
+    ensures { result ≡ grammar.rules_at is_both moment }
+{
+    if is_both {
+        Rules::Both(moment)
+    } else {
+        Rules::Web(moment)
+    }
+}
+
 /// What names ask for behind `--web`: a moment, and the names of inputs; `None` where there is no such moment.
-fn web_of<'a, 'b>(telling: Telling, names: &'a [&'b str]) -> Option<(Linter, &'a [&'b str])>
-    ensures { option_map (λ asked. (asked.0, map (λ name. name.now) asked.1.now)) result ≡ grammar.web_of telling (map (λ name. name.now) names.now) }
+fn web_of<'a, 'b>(
+    is_both: bool,
+    telling: Telling,
+    names: &'a [&'b str],
+) -> Option<(Linter, &'a [&'b str])>
+    ensures { option_map (λ asked. (asked.0, map (λ name. name.now) asked.1.now)) result ≡ grammar.web_of is_both telling (map (λ name. name.now) names.now) }
 {
     let [moment, others @ ..] = names else {
         return None;
@@ -209,11 +259,24 @@ fn web_of<'a, 'b>(telling: Telling, names: &'a [&'b str]) -> Option<(Linter, &'a
             Linter {
                 kind: Some(Kind::Certificate),
                 telling,
-                web: Some(moment),
+                rules: rules_at(is_both, moment),
             },
             others,
         )),
         None => None,
+    }
+}
+
+/// What options that ask for something and names ask for.
+fn asked_by<'a, 'b>(options: &[&str], names: &'a [&'b str]) -> Option<(Linter, &'a [&'b str])>
+    ensures { option_map (λ asked. (asked.0, map (λ name. name.now) asked.1.now)) result
+        ≡ grammar.asked_by (map (λ option. option.now) options.now) (map (λ name. name.now) names.now) }
+{
+    let telling = telling_of(options);
+    if has_web(options) {
+        web_of(has_rfc(options), telling, names)
+    } else {
+        Some(asked_of(telling, names))
     }
 }
 
@@ -245,7 +308,7 @@ fn web_misuse<'b>(names: &[&'b str]) -> (&'static [u8], &'b str, &'static [u8])
 fn is_known(option: &str) -> bool
     ensures { result ≡ grammar.is_known option.now }
 {
-    is_web(option) || (option == "-v" || (option == "--json" || is_right(option)))
+    asks_something(option) || is_right(option)
 }
 
 /// What is told of an option that may not stand among others.
@@ -278,12 +341,16 @@ fn repeat_misuse<'b>(options: &[&'b str]) -> (&'static [u8], &'b str, &'static [
     (b"", "", b"")
 }
 
-/// What is told of options each of which may stand among others: of a summary in JSON, or of one that stands twice, or nothing.
+/// What is told of options each of which may stand among others: of a summary in JSON, of rules that are asked beside none, or of one that stands
+/// twice, or nothing.
 fn end_misuse<'b>(options: &[&'b str]) -> (&'static [u8], &'b str, &'static [u8])
     ensures { result.0.now ++ (result.1.now ++ result.2.now) ≡ grammar.end_misuse (map (λ option. option.now) options.now) }
 {
     if are_mixed(options) {
         return (b"x509_linter: --count prints no JSON\n", "", b"");
+    }
+    if is_rfc_alone(options) {
+        return (b"x509_linter: --rfc stands without --web\n", "", b"");
     }
     repeat_misuse(options)
 }
@@ -347,96 +414,41 @@ pub(crate) fn front_of(alloc: Global, heading: Heading<'_>) -> Result<String, Al
     Ok(front)
 }
 
-/// What is said of the object of this kind, or of the first kind, whose encoding the bytes are.
-fn said_of(
-    alloc: Global,
-    kind: Option<Kind>,
-    style: Style<'_>,
-    bytes: &[u8],
-) -> Result<Option<Report>, Error>
-    ensures ok { IfOk result (grammar.is_said kind (front_of style.entry) bytes.now) }
-    ensures err { IfErr result (λ e. e.kind ≡ errors.Memory) }
-{
-    match kind {
-        Some(kind) => lint_kind(alloc, style, kind, bytes),
-        None => lint_bytes(alloc, style, bytes),
-    }
-}
-
 /// What is said of it in objects of JSON.
-fn json_said_of(
-    alloc: Global,
-    kind: Option<Kind>,
-    heading: Heading<'_>,
-    bytes: &[u8],
-) -> Result<Option<Report>, Error>
-    ensures ok { IfOk result (grammar.is_said kind (Some (grammar.json_front (heading_text heading.entry))) bytes.now) }
-    ensures err { IfErr result (λ e. e.kind ≡ errors.Memory) }
-{
-    let front = front_of(alloc, heading)?;
-    said_of(alloc, kind, Style::Json(front.as_str()), bytes)
-}
-
-/// What is said of it by the rules of RFC 5280 and the others, as it is told.
-fn styled_of(
+fn json_report_of(
     alloc: Global,
     linter: Linter,
     heading: Heading<'_>,
     bytes: &[u8],
 ) -> Result<Option<Report>, Error>
-    ensures ok { IfOk result (grammar.is_said linter.kind (grammar.front_for linter.telling (heading_text heading.entry)) bytes.now) }
-    ensures err { IfErr result (λ e. e.kind ≡ errors.Memory) }
-{
-    match linter.telling {
-        Telling::Json | Telling::VerboseJson => json_said_of(alloc, linter.kind, heading, bytes),
-        Telling::Lines | Telling::Verbose => said_of(alloc, linter.kind, Style::Text, bytes),
-    }
-}
-
-/// What is said of it in objects of JSON by the rules of the Baseline Requirements that are in force at the moment.
-fn json_web_report_of(
-    alloc: Global,
-    moment: DateTime,
-    heading: Heading<'_>,
-    bytes: &[u8],
-) -> Result<Option<Report>, Error>
-    ensures ok { IfOk result (IsWebSaid (Some (grammar.json_front (heading_text heading.entry))) moment bytes.now) }
+    ensures ok { IfOk result (is_said_by linter.rules linter.kind (Some (grammar.json_front (heading_text heading.entry))) bytes.now) }
     ensures err { IfErr result (λ e. e.kind ≡ errors.Memory) }
 {
     let front = front_of(alloc, heading)?;
-    lint_web_bytes(alloc, Style::Json(front.as_str()), moment, bytes)
+    said_by(
+        alloc,
+        linter.rules,
+        linter.kind,
+        Style::Json(front.as_str()),
+        bytes,
+    )
 }
 
-/// What is said of it by the rules of the Baseline Requirements that are in force at the moment, as it is told.
-fn web_report_of(
-    alloc: Global,
-    moment: DateTime,
-    telling: Telling,
-    heading: Heading<'_>,
-    bytes: &[u8],
-) -> Result<Option<Report>, Error>
-    ensures ok { IfOk result (IsWebSaid (grammar.front_for telling (heading_text heading.entry)) moment bytes.now) }
-    ensures err { IfErr result (λ e. e.kind ≡ errors.Memory) }
-{
-    match telling {
-        Telling::Json | Telling::VerboseJson => json_web_report_of(alloc, moment, heading, bytes),
-        Telling::Lines | Telling::Verbose => lint_web_bytes(alloc, Style::Text, moment, bytes),
-    }
-}
-
-/// What is said of it; with a moment, by the rules of the Baseline Requirements.
+/// What is said of it, as it is told.
 pub(crate) fn report_of(
     alloc: Global,
     linter: Linter,
     heading: Heading<'_>,
     bytes: &[u8],
 ) -> Result<Option<Report>, Error>
-    ensures ok { IfOk result (grammar.is_said_at linter.web linter.kind (grammar.front_for linter.telling (heading_text heading.entry)) bytes.now) }
+    ensures ok { IfOk result (is_said_by linter.rules linter.kind (grammar.front_for linter.telling (heading_text heading.entry)) bytes.now) }
     ensures err { IfErr result (λ e. e.kind ≡ errors.Memory) }
 {
-    match linter.web {
-        None => styled_of(alloc, linter, heading, bytes),
-        Some(moment) => web_report_of(alloc, moment, linter.telling, heading, bytes),
+    match linter.telling {
+        Telling::Json | Telling::VerboseJson => json_report_of(alloc, linter, heading, bytes),
+        Telling::Lines | Telling::Verbose => {
+            said_by(alloc, linter.rules, linter.kind, Style::Text, bytes)
+        }
     }
 }
 
@@ -670,12 +682,10 @@ impl Asked for Linter {
         options: &[&str],
         names: &'a [&'b str],
     ) -> Option<(Linter, &'a [&'b str])> {
-        if let Some(telling) = web_telling_of(options) {
-            return web_of(telling, names);
-        }
-        match telling_of(options) {
-            Some(telling) => Some(asked_of(telling, names)),
-            None => None,
+        if are_asking(options) {
+            asked_by(options, names)
+        } else {
+            None
         }
     }
 
@@ -683,14 +693,15 @@ impl Asked for Linter {
         options: &[&'b str],
         names: &[&'b str],
     ) -> (&'static [u8], &'b str, &'static [u8]) {
-        match web_telling_of(options) {
-            Some(_) => web_misuse(names),
-            None => option_misuse(options),
+        if are_asking(options) && has_web(options) {
+            web_misuse(names)
+        } else {
+            option_misuse(options)
         }
     }
 
     fn usage() -> &'static [u8] {
-        b"usage: x509_linter [certificate|crl|csr|anchor] [-v] [--json] [CHOICE..] [FILE..]\n       x509_linter --web [-v] [--json] [CHOICE..] MOMENT [FILE..]\n"
+        b"usage: x509_linter [certificate|crl|csr|anchor] [-v] [--json] [CHOICE..] [FILE..]\n       x509_linter --web [--rfc] [-v] [--json] [CHOICE..] MOMENT [FILE..]\n"
     }
 
     fn help() -> &'static [u8] {

@@ -8,6 +8,7 @@ mod lines;
 mod linter;
 mod names;
 mod run;
+mod said;
 mod summary;
 mod values;
 

@@ -4,14 +4,14 @@ ghost use Rattle.std.specs.Option.{option_map};
 ghost use Rattle.std.specs.Prelude.{◌≡◌, ◌∷◌, IfOk, map, string_bytes};
 ghost use Rattle.x509_linter.specs.Choice.{has_count, joined, plain_options};
 ghost use Rattle.x509_linter.specs.Chosen.{subject};
-ghost use Rattle.x509_linter.specs.Run.{AreReported, IsObeyed, IsRun, IsTried, chosen_of, dated, has_web, moment_text, others_of};
+ghost use Rattle.x509_linter.specs.Run.{AreReported, IsObeyed, IsRun, IsTried, chosen_of, dated, is_date, moment_text, others_of};
 ghost use Rattle.x509_object_run.specs.Program.{streams, world_of};
 ghost use Rattle.x509_object_run.specs.Words.{inputs_of};
 
 use crate::choice::{choose, has_count, plain_options};
 use crate::chosen::Chosen;
 use crate::count::count;
-use crate::linter::{Linter, is_web};
+use crate::linter::{Linter, has_web, is_not_before};
 use crate::values::joined;
 use std::alloc::{AllocError, Global};
 use x509_object_run::{Asked, Console, Opener, obey, refuse_memory, show_all, split};
@@ -125,18 +125,11 @@ fn do_asked<R: Source, F: Source + Drop, O: Opener<F>, W: Sink, E: Console>(
     }
 }
 
-/// Whether one of the options asks for the Baseline Requirements.
-fn any_is_web(options: &[&str]) -> bool
-    ensures { result ≡ has_web (map (λ option. option.now) options.now) }
+/// Whether a word has as many characters as a date, and doesn't name notBefore.
+fn is_date(word: &str) -> bool
+    ensures { result ≡ is_date word.now }
 {
-    let mut rest = options;
-    while let [option, others @ ..] = rest {
-        if is_web(option) {
-            return true;
-        }
-        rest = others;
-    }
-    false
+    word.len() == 10 && !is_not_before(word)
 }
 
 /// The text of a moment: of a date alone that of midnight.
@@ -145,7 +138,7 @@ fn moment_text(alloc: Global, text: &str) -> Result<String, AllocError>
 {
     let mut whole = String::new(alloc);
     whole.push_str(text)?;
-    if text.len() == 10 {
+    if is_date(text) {
         whole.push_str("T00:00:00Z")?;
     }
     Ok(whole)
@@ -238,7 +231,7 @@ fn do_dated<R: Source, F: Source + Drop, O: Opener<F>, W: Sink, E: Console>(
         (map (λ option. option.now) options.now) (dated (map (λ option. option.now) options.now) (map (λ name. name.now) names.now))
         (streams reader.old writer.old errors.old) (streams reader.new writer.new errors.new) result }
 {
-    if any_is_web(options) {
+    if has_web(options) {
         if let [moment, others @ ..] = names {
             return do_at::<R, F, O, W, E>(
                 alloc, options, moment, others, opener, reader, writer, errors,

@@ -24,6 +24,6 @@ returns-in-Ok-Some g c =
 pub returns-in-Ok-None : goal.returns-in-Ok-None
 returns-in-Ok-None g c =
     let linter = c.args.self.now in (
-      no_object linter.web linter.kind (front_for linter.telling (heading_text c.args.heading)) None c.args.bytes.now (rw c.in-Ok-None.field-0-is at c.in-Ok-None.ensures.ok),
+      no_object linter.rules linter.kind (front_for linter.telling (heading_text c.args.heading)) None c.args.bytes.now (rw c.in-Ok-None.field-0-is at c.in-Ok-None.ensures.ok),
       refl,
     )
