@@ -66,3 +66,4 @@ pub mod DescribedOids
 pub mod DescribedNumbers
 pub mod DescribedElements
 pub mod DescribedTimestamps
+pub mod PutPlaces

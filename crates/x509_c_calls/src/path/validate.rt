@@ -60,9 +60,7 @@ fn tell(
         Ok(validated) => match encoded_policies(alloc, validated.policies.as_slice()) {
             Ok(policies) => {
                 let lent = validated.certificates.as_slice();
-                let Ok(()) = put_certificates(alloc, lent, certificates) else {
-                    return Status::Refused(ErrorKind::Memory);
-                };
+                put_certificates(lent, certificates);
                 put(policies.as_slice(), room);
                 *answer = subject_of(lent, policies.len());
                 Status::Done

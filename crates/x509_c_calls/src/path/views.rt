@@ -1,11 +1,9 @@
 //! What the certificates of a valid path say.
 
-ghost use Rattle.std.specs.List.{AllZip};
-ghost use Rattle.std.specs.Prelude.{◌≡◌, IfErr, IfOk, OnOk, length, map};
+ghost use Rattle.std.specs.Prelude.{map};
 ghost use Rattle.x509_c_calls.specs.PathValidation.{IsCertificateOf, PutsCertificates};
 
 use crate::certificate::{CertificateView, SignatureView, signature_of, view_of};
-use std::alloc::{AllocError, Global};
 use x509_check::CertificateRef;
 
 /// What a certificate of a path says, and what is to be verified of it. Each place is one in the bytes of this certificate, which
@@ -31,38 +29,14 @@ pub(crate) fn certificate_of(lent: &CertificateRef<'_>) -> PathCertificate
     }
 }
 
-/// What each of the certificates says.
-fn certificates_of(
-    alloc: Global,
-    lent: &[CertificateRef<'_>],
-) -> Result<Vec<PathCertificate>, AllocError>
-    ensures each { IfOk result (λ found. AllZip IsCertificateOf (map (λ certificate. certificate.bytes.now) lent.now) found.items) }
-    ensures long { IfOk result (λ found. length found.items ≡ length lent.now) }
-{
-    let mut found = Vec::with_capacity(alloc, lent.len())?;
-    for certificate in lent {
-        found.push(certificate_of(certificate))?;
-    }
-    Ok(found)
-}
-
 /// Puts what each of the certificates says at the front of the buffer `room`, where all fit; else it is unchanged.
-///
-/// # Errors
-///
-/// When out of memory, only where they fit. The buffer is unchanged then.
-pub(crate) fn put_certificates(
-    alloc: Global,
-    lent: &[CertificateRef<'_>],
-    room: &mut [PathCertificate],
-) -> Result<(), AllocError>
-    ensures ok { OnOk result (PutsCertificates (map (λ certificate. certificate.bytes.now) lent.now) room.old room.new) }
-    ensures err { IfErr result (λ e. room.new ≡ room.old) }
+pub(crate) fn put_certificates(lent: &[CertificateRef<'_>], room: &mut [PathCertificate])
+    ensures { PutsCertificates (map (λ certificate. certificate.bytes.now) lent.now) room.old room.new }
 {
     if room.len() < lent.len() {
-        return Ok(());
+        return;
     }
-    let found = certificates_of(alloc, lent)?;
-    room[..found.len()].copy_from_slice(found.as_slice());
-    Ok(())
+    for index in 0..lent.len() {
+        room[index] = certificate_of(&lent[index]);
+    }
 }

@@ -28,7 +28,7 @@ returns-in-Ok-encoded_policies c inputs lends =
     c.as_slice-in-Ok-encoded_policies.ensures.value ∙ c.in-Ok-encoded_policies.ensures ∙ ap (λ (l : List (Bor (List ℕ))). policies_octets (octets_of l)) c.as_slice.ensures.value in (
       valid,
       subst (λ p. IsSubjectOfLast p c.subject_of.result) lent (c.subject_of.ensures.subject (λ none. valid.some (sym lent ∙ ap (map (λ certificate. certificate.bytes.now)) none))),
-      subst (λ p. PutsCertificates p c.args.certificates.now c.put_certificates.new.room) lent c.in-Ok-put_certificates.ensures.ok,
+      subst (λ p. PutsCertificates p c.args.certificates.now c.put_certificates.new.room) lent c.put_certificates.ensures,
       found,
       gives.1.0,
       record {
