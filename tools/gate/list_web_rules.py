@@ -21,8 +21,8 @@ HEAD = f"""# The rules of `x509_lint_web`, with sections and days from memory of
 `tools/gate/list_web_rules.py` makes this page of `tools/data/zlint.txt` and the rules in `crates/x509_lint_web/src/rule`: those of the Baseline Requirements
 for TLS server certificates (TLS BR) of the CA/Browser Forum, of version 2.0 and later, that a certificate alone shows. Whether a rule is broken is a definition
 of `crates/x509_lint_web/specs`, in the file of its group; `lint_web` is proved to find exactly the rules that are in force at a validation time and broken, and
-`x509_linter --web MOMENT` prints these, of a MOMENT as `2026-03-15T00:00:00Z`. Behind what breaks a rule stand its section, `warning` where that is no error,
-and the day from which it is in force; without a day it was from the beginning.
+`x509_linter --web MOMENT` prints these, of a MOMENT as `2026-03-15T00:00:00Z`, or `not-before` for the notBefore of each certificate. Behind what breaks a rule
+stand its section, `warning` where that is no error, and the day from which it is in force; without a day it was from the beginning.
 
 - A certificate of a *TLS server* has no basic constraints, or ones that are read and don't set cA, and no EKU, or one that is read and has serverAuth.
 - One of an *authority that may stand above TLS servers* has basic constraints that are read and set cA, and such an EKU or none. One of these is that of a
