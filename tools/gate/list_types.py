@@ -1,5 +1,5 @@
 #!/usr/bin/env python3
-"""Puts the names of the types that x509_reencode knows, which are those of the tables of crates/x509_types, wherever they are listed: in include/x509.h and in
+"""Puts the names of the types that x509_reencode knows, which are those of the tables of crates/x509_types and crates/x509_all_types, wherever they are listed: in include/x509.h and in
 the docs of the packages for Rust and Python. With --check it compares instead.
 """
 import argparse
@@ -25,7 +25,7 @@ WIDTH = 160
 
 def names():
     """The names of all tables, in order."""
-    files = sorted((TOP / "crates/x509_types/src").glob("*.rt"))
+    files = sorted(it for crate in ("x509_types", "x509_all_types") for it in (TOP / "crates" / crate / "src").glob("*.rt"))
     return sorted({name for it in files for name in ROW.findall(it.read_text(encoding="utf-8"))})
 
 

@@ -1,4 +1,4 @@
-"""Runs that x509_show and x509_linter have to end alike: help and version, files, what is refused, and an output that can't be written.
+"""Runs that x509_show and x509_linter have to end alike: help and version, files, directories, what is refused, and an output that can't be written.
 
 What is to be printed is stated here by hand, but for the texts that are handed in.
 """
@@ -149,7 +149,6 @@ class Program:
         missing, hidden, strange = str(folder / "no such file"), str(folder / "hidden"), str(folder / "a\nb\x1b[2J")
         yield "no file", [missing], b"", self.told(missing, "no such file")
         yield "a file below a file", [paths[0] + "/x"], b"", self.told(paths[0] + "/x", "can't be opened")
-        yield "a directory", [str(folder)], b"", self.told(folder, "is a directory")
         yield "an empty name", [""], b"", self.told("(an empty name)", "no such file")
         yield "a name that isn't UTF-8", [b"\xff"], b"", self.told("(an empty name)", "no such file")
         yield "a name that could end a line", [strange], b"", self.told("(a name with control characters)", "no such file")
@@ -162,6 +161,7 @@ class Program:
             yield "a file of which a read fails", ["/proc/self/mem"], b"", self.told("/proc/self/mem", "can't be read")
         yield from self.several(paths, missing)
         yield from self.bundles(folder / "chain.pem")
+        yield from self.directories(folder, paths[0])
 
     def bundles(self, path):
         """PEM of several objects, each of which is called by its number."""
@@ -209,6 +209,55 @@ class Program:
         yield "a file and standard input", [paths[-1], "-"], data, (max(statuses[-1], statuses[0]), texts[-1] + heading, "")
         again = f"{self.name}: standard input: {self.no_object}; it is empty\n"
         yield "standard input twice", ["-", "-"], data, (2, heading, again)
+
+    def directories(self, folder, other):
+        """Directories, which stand for the files in them, and a file outside."""
+        data, text, status = self.objects[0]
+
+        def headed(path, text):
+            return f"{path}:\n{text}" if text else ""
+
+        def made(name):
+            (folder / name).mkdir()
+            return folder / name
+
+        full, names = made("full"), ["b.der", "a.der", "B.der", "ä.der", "-"]
+        for at, name in enumerate(names):
+            (full / name).write_bytes(self.objects[at % len(self.objects)][0])
+        found = {name: self.objects[at % len(self.objects)] for at, name in enumerate(names)}
+        found = [(name, *found[name][1:]) for name in sorted(names, key=os.fsencode)]
+        worst, texts = max(status for _, _, status in found), "".join(headed(full / name, text) for name, text, _ in found)
+        yield "a directory of several files", [str(full)], data, (worst, texts, "")
+        yield "a directory that ends with a slash", [f"{full}/"], data, (worst, texts, "")
+        yield "a directory and standard input", [str(full), "-"], data, (max(worst, status), texts + headed("standard input", text), "")
+        empty = made("empty")
+        yield "an empty directory", [str(empty)], data, (0, "", "")
+        yield "an empty directory and a file", [str(empty), other], b"", (status, headed(other, text), "")
+        outer = made("outer")
+        (outer / "below").mkdir()
+        (outer / "below" / "one").write_bytes(data)
+        yield "a directory with a directory alone in it", [str(outer)], data, (0, "", "")
+        (outer / "one").write_bytes(data)
+        (outer / "inward").symlink_to("below")
+        (outer / "aside").symlink_to(other)
+        os.mkfifo(outer / "pipe")
+        shown = headed(outer / "aside", text) + headed(outer / "one", text)
+        yield "a directory with directories, links and a pipe in it", [str(outer)], b"", (status, shown, "")
+        yield "a link to a directory", [str(outer / "inward")], b"", (status, headed(outer / "inward" / "one", text), "")
+        broken = made("broken")
+        (broken / "link").symlink_to("none")
+        (broken / "one").write_bytes(data)
+        said = f"{self.name}: {broken}/link: no such file\n"
+        yield "a directory with a broken link in it", [str(broken)], b"", (2, headed(broken / "one", text), said)
+        strange = made("strange")
+        (strange / "one").write_bytes(data)
+        pathlib.Path(os.fsdecode(os.fsencode(strange) + b"/\xff")).write_bytes(data)
+        yield "a directory with a name in it that isn't UTF-8", [str(strange)], b"", (2, headed(strange / "one", text), self.told(strange, "is a directory")[2])
+        if os.geteuid():
+            hidden = made("no list")
+            hidden.chmod(0o300)
+            yield "a directory that may not be listed", [str(hidden)], b"", self.told(hidden, "permission denied")
+            hidden.chmod(0o700)
 
     def unwritten(self, folder):
         """An output that takes nothing, and messages that can't be written."""

@@ -5,6 +5,7 @@ word `real` it also runs the sources by `rt` itself, on a value, on bad input, a
 import argparse
 import os
 import pathlib
+import re
 import shutil
 import subprocess
 import sys
@@ -13,11 +14,15 @@ import time
 import tomllib
 
 sys.path.insert(0, str(pathlib.Path(__file__).resolve().parents[1]))
+from build.run_unproved import ABOVE_NAMES, crate_of
 from common.crates import crates_below, lines_of, path_of
 
 TOP = pathlib.Path(__file__).resolve().parents[2]
 # What takes long to read, and serves no type: matching of names, paths that are validated, and tables of Unicode.
 LARGE = {"x509_match", "x509_constraints", "x509_policy", "x509_validation", "caseless", "ucd_category", "unicode_normalization"}
+# What serves no type of names and below.
+ABOVE = {"x509_ext", "x509_sct", "x509_cert", "x509_check", "x509_path", "x509_all_types"}
+WORD, TYPE, ROW = re.compile(r'"([\w-]+)" => Some\(Kind::(\w+)\)'), re.compile(r'Kind::(\w+) => "(\w+)"'), re.compile(r'^ +"(\w+)" =>', re.M)
 BUILD, RUN = "tools/build/build_program.py", "tools/build/run_unproved.py"
 SCRIPTS = ("x509_tool", "crates.txt", "HANDLES", "docs/GATE.md", "tools/common/crates.py", BUILD, RUN)
 # Answers by the words that the test hands on: VERB in the first line, then what `rt` prints on each stream, and its status.
@@ -51,6 +56,17 @@ with open("crates/x509_tool/out/x509_tool", "w") as it:
 os.chmod("crates/x509_tool/out/x509_tool", 0o755)
 """
 USAGE = b"usage: x509_tool reencode TYPE [rfc5280|raw] | name | encode-name\n       x509_tool path [--any-signature] MOMENT\n"
+# The types of x509_tool that x509_name_tool has too.
+KINDS = {
+    "any": "Any",
+    "integer": "Int",
+    "name": "Name",
+    "oid": "ObjectIdentifier",
+    "rdn": "RelativeDistinguishedName",
+    "serial": "SerialNumber",
+    "time": "Time",
+    "validity": "Validity",
+}
 failed = []
 
 
@@ -113,10 +129,45 @@ def built(top, more):
 
 
 def read():
-    """What the first command waits for: all that the program stands on is read."""
-    lines = lines_of(path_of("x509_tool", crates_below()))
-    found = sorted(LARGE.intersection(" ".join(lines).replace(":", " ").split()))
-    check("the first command reads neither validated paths nor tables of Unicode", not found, found)
+    """What the first command waits for: all that its crate stands on is read."""
+    for what, words, unread in (
+        ("the first command reads nothing above names", ["reencode", "oid"], LARGE | ABOVE),
+        ("a certificate needs neither validated paths nor tables of Unicode", ["reencode", "certificate"], LARGE),
+    ):
+        lines = lines_of(path_of(crate_of("x509_tool", words), crates_below()))
+        found = sorted(unread.intersection(" ".join(lines).replace(":", " ").split()))
+        check(what, not found, found)
+    text = (TOP / "crates/x509_tool_run/src/command.rt").read_text(encoding="utf-8")
+    types = dict(TYPE.findall(text))
+    rows = {row for it in (TOP / "crates/x509_types/src").glob("*.rt") for row in ROW.findall(it.read_text(encoding="utf-8"))}
+    kinds = {word: types[kind] for word, kind in WORD.findall(text)}
+    above = {word for word, kind in kinds.items() if kind not in rows}
+    check("the types above names are those that stand in no table below", above == ABOVE_NAMES, above)
+    check("and the others are tried over both programs", {word: kind for word, kind in kinds.items() if word not in above} == KINDS, kinds)
+
+
+def alike():
+    """Both proved programs, where `rt ci` left them, say the same of the same words and lines."""
+    programs = [TOP / "crates" / it / "out" / it for it in ("x509_tool", "x509_name_tool")]
+    if not all(it.exists() for it in programs):
+        print("not tried: both proved programs over the same lines, since they aren't built")
+        return
+    asked = [(["name"], line) for line in lines_of_rows("Name")] + [(["encode-name"], line) for line in (b"CN=www.example.org,C=DE\n", b"CN\n", b"\xff\n", b"")]
+    for word, kind in KINDS.items():
+        for line in lines_of_rows(kind):
+            asked += [(["reencode", word, *profile], line) for profile in ([], ["raw"], ["rfc5280"], ["der"])]
+    asked += [(words, b"0603550406\n") for words in (["--help"], ["--version"], ["-h"], [], ["reencode"], ["reencode", "oids"], ["names"])]
+    said = [[run([it, *words], TOP, line) for it in programs] for words, line in asked]
+    other = [it for it, (a, b) in zip(asked, said) if (a.returncode, a.stdout, a.stderr) != (b.returncode, b.stdout, b.stderr)]
+    statuses = {status: sum(a.returncode == status for a, _ in said) for status in (0, 1, 2)}
+    check(f"both programs say the same, of {len(asked)} lines, by status {statuses}", not other and min(statuses.values()) > 4, other[:3])
+
+
+def lines_of_rows(kind):
+    """Hex texts of the rows of a type, one of them no hex."""
+    text = (TOP / f"crates/x509_test_rows/rows/{kind}.txt").read_text(encoding="utf-8")
+    found = re.findall(r"^\d+ \w+ ([0-9A-F]{2,800}) =", text, re.M)[:20]
+    return [f"{it}\n".encode() for it in found] + [b"0\n"]
 
 
 def processor_seconds():
@@ -133,6 +184,8 @@ def real():
         ended = run(tool + words, TOP, given)
         print(f"{processor_seconds() - before:.0f} processor seconds from the sources to the answer")
         check(f"the sources answer {printed}", (ended.returncode, ended.stdout) == (status, printed), ended)
+    ended = run([*tool, "certificate"], TOP, b"3000\n")
+    check("of a certificate too", (ended.returncode, ended.stdout) == (1, b"refused: Malformed\n"), ended)
     version = tomllib.loads((TOP / "bindings/rust/Cargo.toml").read_text(encoding="utf-8"))["package"]["version"]
     ended = run([TOP / RUN, "x509_tool", "--version"], TOP, b"")
     check("the version is that of the package for Rust", (ended.returncode, ended.stdout.decode()) == (0, f"x509_tool {version}\n"), ended)
@@ -153,6 +206,7 @@ def main():
     parser.add_argument("real", nargs="?", choices=["real"], help="run the sources by `rt` itself too")
     given = parser.parse_args()
     read()
+    alike()
     with tempfile.TemporaryDirectory() as folder:
         top = pathlib.Path(folder)
         more = copy_of_scripts(top)

@@ -1529,6 +1529,33 @@ def verbose_json(program):
         yield "a full output, with -v and --json", found == (2, "", "x509_linter: standard input: the output can't be written\n"), found
 
 
+def in_directories(program):
+    """For each run over directories with other options a name, whether it ended as stated, and how it ended."""
+    odd, rule = certificate(serial=integer(0)), "serial_number_not_positive"
+    number = "certificate", rule, "error", "RFC 5280 4.1.2.2", "tbsCertificate.serialNumber", "00"
+    line = f"certificate: error {rule} (RFC 5280 4.1.2.2)\n"
+    with tempfile.TemporaryDirectory() as folder:
+        full, empty = f"{folder}/full", f"{folder}/empty"
+        for path in (full, empty, f"{full}/below"):
+            pathlib.Path(path).mkdir()
+        for name, data in (("c", odd), ("b", certificate()), ("a", odd)):
+            pathlib.Path(f"{full}/{name}").write_bytes(data)
+        lines = [told(f"{full}/a", *number), result(f"{full}/b", "nothing found"), told(f"{full}/c", *number)]
+        for words, wanted in (
+            (["--json", full], (1, lines[0] + lines[2])),
+            (["--json", "-v", full], (1, "".join(lines))),
+            (["-v", full], (1, f"{full}/a:\n{line}{full}/b:\nnothing found\n{full}/c:\n{line}")),
+            (["--count", "-v", full], (1, f"2 {line}1 nothing found\n")),
+            (["certificate", "--only", rule, full], (1, f"{full}/a:\n{line}{full}/c:\n{line}")),
+            (["--web", "--rfc", "--only", rule, "2026-03-15", full], (1, f"{full}/a:\n{line}{full}/c:\n{line}")),
+            (["-v", empty], (0, "")),
+            (["--count", "-v", empty], (0, "")),
+            (["-v", "--json", empty], (0, "")),
+        ):
+            found = ended(program, words, odd)
+            yield f"a directory and the words {words[:-1]}", found == (*wanted, ""), f"{found}, and not {wanted}"
+
+
 def no_rule(program):
     """For each run with `-v` a name, whether it says as stated that no rule applies, and how it ended."""
     serial = "serial_number_not_positive"
@@ -1919,6 +1946,7 @@ def alike(program):
     yield from by_both(program)
     yield from choices(program)
     yield from verbose_json(program)
+    yield from in_directories(program)
     yield from no_rule(program)
     yield from summaries(program)
     yield from Program(program, USAGE, NO_OBJECT, objects, no_option).checked()

@@ -209,6 +209,9 @@ def with_files(program):
             yield f"files {words}", None if found == (0, wanted, "") else f"{found}, and not {wanted}"
         found = ended(program, ["--json"], b"".join([next(pem_of(certificate()))] * 2))
         yield "PEM of several objects, as JSON", None if found == (0, document * 2, "") else f"{found}, and not {document * 2}"
+        for words, wanted in ((["certificate", folder], f"{paths[0]}:\n{text}{paths[1]}:\n{text}"), (["--json", folder], document * 2)):
+            found = ended(program, words)
+            yield f"a directory {words[:-1]}", None if found == (0, wanted, "") else f"{found}, and not {wanted}"
         found, wanted = ended(program, ["crl", *paths]), "".join(f"x509_show: {path}: not a CRL in DER, PEM or hex{WHOLE}\n" for path in paths)
         yield "files of another kind", None if found == (2, "", wanted) else f"{found}, and not {wanted}"
 

@@ -11,6 +11,7 @@ ghost use Rattle.x509_der.specs.declared.error.ErrorKind.TheVariants.{Memory};
 ghost use Rattle.x509_types.specs.Reencoding.{Reencodes};
 
 use std::alloc::Global;
+use x509_all_types::Types;
 use x509_base::Rfc5280;
 use x509_c_calls::{
     Span, check, name_from_text, name_text, reencode, reencode_named, signed_place,
@@ -20,7 +21,6 @@ use x509_cert::crl::CertificateList;
 use x509_cert::request::CertReq;
 use x509_codec::{Codec, NameCodec};
 use x509_der::{Encode, Grammar};
-use x509_types::Types;
 
 /// Decodes a value of the type with that name under the profile with that number, and encodes it at the front of the
 /// buffer.

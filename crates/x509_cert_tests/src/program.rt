@@ -4,9 +4,9 @@ use crate::fakes::{FakeEnv, FakeReader, FakeWriter, Lapse};
 use std::alloc::Global;
 use std::io;
 use std::test::*;
+use x509_all_types::Types;
 use x509_der::ErrorKind;
 use x509_tool_run::{Refusal, run, words};
-use x509_types::Types;
 
 /// Whether the run of the program with these arguments, over what is read and what goes wrong, ends with the status and the text.
 fn ends(

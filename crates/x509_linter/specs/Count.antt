@@ -5,7 +5,7 @@ use Rattle.x509_linter.specs.Summary.{summary}
 use Rattle.x509_linter.specs.declared.count.Kept.{Kept}
 use Rattle.x509_object_run.specs.Faults.{fault_text, short_complaint}
 use Rattle.x509_object_run.specs.Object.{Steps, Subject}
-use Rattle.x509_object_run.specs.Program.{AreDone, IsTold, Outputs, Says, Streams, World, Writes, are_headed, outputs, streams, world_of, writes}
+use Rattle.x509_object_run.specs.Program.{AreNamedDone, IsTold, Outputs, Says, Streams, World, Writes, outputs, streams, world_of, writes}
 use Rattle.x509_object_run.specs.declared.fault.Fault.TheVariants.{Memory}
 
 -- octets are kept behind those before, or there is no memory for them
@@ -24,6 +24,6 @@ abbrev pub IsCounted : {R F W E : Type 0} → World R F W E → Subject → List
 IsCounted {E = E} world subject inputs old new status =
     (empty : Kept) × (kept : Kept) × (errors : E) × (first : ℕ)
     × (empty.text.items ≡ [])
-    × AreDone program.name subject (world_of world.gives world.opens world.file_gives Keeps world.takes_errors world.counts) (are_headed subject inputs) inputs
+    × AreNamedDone program subject (world_of world.gives world.opens world.lists world.stands world.file_gives Keeps world.takes_errors world.counts) inputs
     (streams old.input empty old.errors) (streams new.input kept errors) first
     × IsSummedUp (writes world.takes world.takes_errors world.counts) kept.text.items first (outputs old.output errors) (outputs new.output new.errors) status

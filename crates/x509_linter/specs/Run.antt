@@ -6,7 +6,7 @@ use Rattle.x509_linter.specs.Count.{IsCounted}
 use Rattle.x509_linter.specs.Linter.{asked, has_web, is_not_before, misuse, program, subject}
 use Rattle.x509_linter.specs.declared.linter.Linter.{Linter}
 use Rattle.x509_object_run.specs.Object.{Subject}
-use Rattle.x509_object_run.specs.Program.{AreDone, IsUnkept, Streams, World, are_headed, call_from}
+use Rattle.x509_object_run.specs.Program.{AreNamedDone, IsUnkept, Streams, World, call_from}
 use Rattle.x509_object_run.specs.Program as runs
 use Rattle.x509_object_run.specs.Words.{inputs_of, names_of, options_of}
 
@@ -21,7 +21,7 @@ others_of options = if choose options then plain_options options else options
 -- what is said of inputs is printed, or summed up
 abbrev pub AreReported : {R F W E : Type 0} → World R F W E → Subject → Bool → List (List ℕ) → Streams R W E → Streams R W E → ℕ → Type 0
 AreReported world subject true inputs old new status = IsCounted world subject inputs old new status
-AreReported world subject false inputs old new status = AreDone program.name subject world (are_headed subject inputs) inputs old new status
+AreReported world subject false inputs old new status = AreNamedDone program subject world inputs old new status
 
 -- the findings are reported that options choose, or the run over objects does what is asked for
 abbrev pub IsAsked : {R F W E : Type 0} → World R F W E → List (List ℕ) → List (List ℕ) → Option (Linter × List (List ℕ)) → Streams R W E → Streams R W E → ℕ → Type 0

@@ -69,7 +69,7 @@ pub(crate) fn count<R: Source, F: Source + Drop, O: Opener<F>, W: Sink, E: Conso
     writer: &mut W,
     errors: &mut E,
 ) -> u8
-    ensures { IsCounted (world_of R.gives (O.opens opener.now) F.gives W.takes E.takes E.counts) (subject printer.now) (inputs_of (map (λ name. name.now) names.now))
+    ensures { IsCounted (world_of R.gives (O.opens opener.now) (O.lists opener.now) (O.stands opener.now) F.gives W.takes E.takes E.counts) (subject printer.now) (inputs_of (map (λ name. name.now) names.now))
         (streams reader.old writer.old errors.old) (streams reader.new writer.new errors.new) result }
 {
     let mut kept = Kept {

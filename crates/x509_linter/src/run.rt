@@ -52,7 +52,7 @@ fn report<R: Source, F: Source + Drop, O: Opener<F>, W: Sink, E: Console>(
     writer: &mut W,
     errors: &mut E,
 ) -> u8
-    ensures { AreReported (world_of R.gives (O.opens opener.now) F.gives W.takes E.takes E.counts) (subject printer.now)
+    ensures { AreReported (world_of R.gives (O.opens opener.now) (O.lists opener.now) (O.stands opener.now) F.gives W.takes E.takes E.counts) (subject printer.now)
         (has_count (map (λ option. option.now) printer.now.options.now)) (inputs_of (map (λ name. name.now) names.now))
         (streams reader.old writer.old errors.old) (streams reader.new writer.new errors.new) result }
 {
@@ -75,7 +75,7 @@ fn do_chosen<R: Source, F: Source + Drop, O: Opener<F>, W: Sink, E: Console>(
     errors: &mut E,
 ) -> u8
     requires { map (λ option. option.now) plain.now ≡ plain_options (map (λ option. option.now) options.now) }
-    ensures { IsObeyed (world_of R.gives (O.opens opener.now) F.gives W.takes E.takes E.counts)
+    ensures { IsObeyed (world_of R.gives (O.opens opener.now) (O.lists opener.now) (O.stands opener.now) F.gives W.takes E.takes E.counts)
         (map (λ option. option.now) options.now) (map (λ name. name.now) names.now)
         (streams reader.old writer.old errors.old) (streams reader.new writer.new errors.new) result }
 {
@@ -106,7 +106,7 @@ fn do_asked<R: Source, F: Source + Drop, O: Opener<F>, W: Sink, E: Console>(
     writer: &mut W,
     errors: &mut E,
 ) -> u8
-    ensures { IsTried (world_of R.gives (O.opens opener.now) F.gives W.takes E.takes E.counts)
+    ensures { IsTried (world_of R.gives (O.opens opener.now) (O.lists opener.now) (O.stands opener.now) F.gives W.takes E.takes E.counts)
         (map (λ option. option.now) options.now) (map (λ name. name.now) names.now)
         (streams reader.old writer.old errors.old) (streams reader.new writer.new errors.new) result }
 {
@@ -169,7 +169,7 @@ fn do_behind<R: Source, F: Source + Drop, O: Opener<F>, W: Sink, E: Console>(
     writer: &mut W,
     errors: &mut E,
 ) -> u8
-    ensures { IsTried (world_of R.gives (O.opens opener.now) F.gives W.takes E.takes E.counts)
+    ensures { IsTried (world_of R.gives (O.opens opener.now) (O.lists opener.now) (O.stands opener.now) F.gives W.takes E.takes E.counts)
         (map (λ option. option.now) options.now) (first.now ∷ map (λ name. name.now) others.now)
         (streams reader.old writer.old errors.old) (streams reader.new writer.new errors.new) result }
 {
@@ -198,7 +198,7 @@ fn do_at<R: Source, F: Source + Drop, O: Opener<F>, W: Sink, E: Console>(
     writer: &mut W,
     errors: &mut E,
 ) -> u8
-    ensures { IsTried (world_of R.gives (O.opens opener.now) F.gives W.takes E.takes E.counts)
+    ensures { IsTried (world_of R.gives (O.opens opener.now) (O.lists opener.now) (O.stands opener.now) F.gives W.takes E.takes E.counts)
         (map (λ option. option.now) options.now) (moment_text moment.now ∷ map (λ name. name.now) others.now)
         (streams reader.old writer.old errors.old) (streams reader.new writer.new errors.new) result }
 {
@@ -227,7 +227,7 @@ fn do_dated<R: Source, F: Source + Drop, O: Opener<F>, W: Sink, E: Console>(
     writer: &mut W,
     errors: &mut E,
 ) -> u8
-    ensures { IsTried (world_of R.gives (O.opens opener.now) F.gives W.takes E.takes E.counts)
+    ensures { IsTried (world_of R.gives (O.opens opener.now) (O.lists opener.now) (O.stands opener.now) F.gives W.takes E.takes E.counts)
         (map (λ option. option.now) options.now) (dated (map (λ option. option.now) options.now) (map (λ name. name.now) names.now))
         (streams reader.old writer.old errors.old) (streams reader.new writer.new errors.new) result }
 {
@@ -250,7 +250,7 @@ fn lint_joined<R: Source, F: Source + Drop, O: Opener<F>, W: Sink, E: Console>(
     writer: &mut W,
     errors: &mut E,
 ) -> u8
-    ensures { IsRun (world_of R.gives (O.opens opener.now) F.gives W.takes E.takes E.counts) (map string_bytes words.now)
+    ensures { IsRun (world_of R.gives (O.opens opener.now) (O.lists opener.now) (O.stands opener.now) F.gives W.takes E.takes E.counts) (map string_bytes words.now)
         (streams reader.old writer.old errors.old) (streams reader.new writer.new errors.new) result }
 {
     match split(alloc, words) {
@@ -277,7 +277,7 @@ pub(crate) fn lint<R: Source, F: Source + Drop, O: Opener<F>, W: Sink, E: Consol
     writer: &mut W,
     errors: &mut E,
 ) -> u8
-    ensures { IsRun (world_of R.gives (O.opens opener.now) F.gives W.takes E.takes E.counts) (joined (map string_bytes words.now))
+    ensures { IsRun (world_of R.gives (O.opens opener.now) (O.lists opener.now) (O.stands opener.now) F.gives W.takes E.takes E.counts) (joined (map string_bytes words.now))
         (streams reader.old writer.old errors.old) (streams reader.new writer.new errors.new) result }
 {
     match joined(alloc, words) {

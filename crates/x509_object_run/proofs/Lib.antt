@@ -1,3 +1,4 @@
 pub mod SplitWords
+pub mod Found
 pub mod InputsShown
 pub mod Readings

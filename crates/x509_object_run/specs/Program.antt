@@ -1,7 +1,8 @@
 -- What a program over objects does, from its words to its status.
-use Rattle.std.specs.Prelude.{◌≡◌, ◌⊎◌, ◌<◌, ℕ, ◌+◌, ◌-◌, ◌^◌, max, min, Bool, true, false, List, [], ◌∷◌, ◌++◌, codes, length, map, Option, Some, None, Result, Ok, Err, ltb, if◌then◌else◌}
+use Rattle.std.specs.Prelude.{◌≡◌, ◌⊎◌, ◌||◌, ◌<◌, ℕ, ◌+◌, ◌-◌, ◌^◌, max, min, Bool, true, false, List, [], ◌∷◌, ◌++◌, codes, length, map, Option, Some, None, Result, Ok, Err, ltb, if◌then◌else◌}
 use Rattle.std.specs.Fmt.{decimal}
 use Rattle.std.specs.Option.{option_to_list}
+use Rattle.x509_object_run.specs.Below.{AreOfAll, Lists, Stands}
 use Rattle.x509_object_run.specs.Faults.{complaint, fault_text, short_complaint}
 use Rattle.x509_object_run.specs.Labels.{is_standard, label_of}
 use Rattle.x509_object_run.specs.Object.{AreShown, Item, Steps, Subject, heading_for, item_of, numbered, object_bytes, text_bytes, unread_fault}
@@ -23,19 +24,30 @@ use Rattle.x509_tool_run.specs.Version.{version_text}
 abbrev pub Counts : Type 0 → Type 1
 Counts E = E → Option ℕ → E → Type 0
 
--- What a program works with: how standard input is read, which files may be opened and how they are read, how standard output and
--- standard error are written, and how objects are counted there.
+-- What a program works with: how standard input is read, which files may be opened and how they are read, how directories may be listed and what may stand
+-- at a path, how standard output and standard error are written, and how objects are counted there.
 pub record World (R F W E : Type 0) : Type 1 where
   pub gives : Steps R
   pub opens : List ℕ → Result F OpenError → Type 0
+  pub lists : Lists
+  pub stands : Stands
   pub file_gives : Steps F
   pub takes : Steps W
   pub takes_errors : Steps E
   pub counts : Counts E
 
-abbrev pub world_of : {R F W E : Type 0} → Steps R → (List ℕ → Result F OpenError → Type 0) → Steps F → Steps W → Steps E → Counts E → World R F W E
-world_of gives opens file_gives takes takes_errors counts =
-    record { gives = gives; opens = opens; file_gives = file_gives; takes = takes; takes_errors = takes_errors; counts = counts }
+abbrev pub world_of : {R F W E : Type 0} → Steps R → (List ℕ → Result F OpenError → Type 0) → Lists → Stands → Steps F → Steps W → Steps E → Counts E
+    → World R F W E
+world_of gives opens lists stands file_gives takes takes_errors counts = record {
+  gives = gives;
+  opens = opens;
+  lists = lists;
+  stands = stands;
+  file_gives = file_gives;
+  takes = takes;
+  takes_errors = takes_errors;
+  counts = counts;
+}
 
 -- the states of standard input, standard output and standard error
 pub record Streams (R W E : Type 0) : Type 0 where
@@ -249,9 +261,9 @@ AreDone {R} {F} {W} {E} program subject world headed (name ∷ names) old new st
     × IsDone program subject world headed name old middle first × AreDone program subject world headed names middle new rest
     × (status ≡ max first rest)
 
--- what stands above each input
-abbrev pub are_headed : Subject → List (List ℕ) → Headed
-are_headed subject inputs = subject.headed (ltb 1 (length inputs))
+-- what stands above each input, where a directory was named or wasn't
+abbrev pub are_headed : Subject → Bool → List (List ℕ) → Headed
+are_headed subject directory inputs = subject.headed (directory || ltb 1 (length inputs))
 
 -- what a program is asked for
 pub data Call (P : Type 0) : Type 0 where
@@ -289,6 +301,19 @@ pub record Program : Type 0 where
   pub usage : List ℕ
   pub help : List ℕ
 
+-- there is no memory for its words, or for the names of its inputs, and it does nothing else than tell so
+abbrev pub IsUnkept : {R W E : Type 0} → Program → Steps E → Streams R W E → Streams R W E → ℕ → Type 0
+IsUnkept program takes_errors old new status =
+    (new.input ≡ old.input) × (new.output ≡ old.output)
+    × IsTold takes_errors old.errors (short_complaint program.name (fault_text [] Memory)) new.errors × (status ≡ 2)
+
+-- The inputs of names are done: what lies below directories, and the others themselves. Or there is no memory for what they are called.
+abbrev pub AreNamedDone : {R F W E : Type 0} → Program → Subject → World R F W E → List (List ℕ) → Streams R W E → Streams R W E → ℕ → Type 0
+AreNamedDone program subject world names old new status =
+    ((inputs : List (List ℕ)) × (directory : Bool) × AreOfAll world.lists world.stands names inputs directory
+    × AreDone program.name subject world (are_headed subject directory inputs) inputs old new status)
+    ⊎ IsUnkept program world.takes_errors old new status
+
 -- what a program does that is called so
 abbrev pub IsRun : {P R F W E : Type 0} → Program → (P → Subject) → World R F W E → Call P → Streams R W E → Streams R W E → ℕ → Type 0
 IsRun program subject world Help old new status =
@@ -297,12 +322,6 @@ IsRun program subject world Version old new status =
     (new.input ≡ old.input)
     × Says program.name world.takes world.takes_errors (as_line (version_text program.name)) old.output new.output old.errors new.errors status
 IsRun program subject world (Over printer names) old new status =
-    AreDone program.name (subject printer) world (are_headed (subject printer) (inputs_of names)) (inputs_of names) old new status
+    AreNamedDone program (subject printer) world (inputs_of names) old new status
 IsRun program subject world (Misused told) old new status =
     (new.input ≡ old.input) × (new.output ≡ old.output) × IsTold world.takes_errors old.errors (told ++ as_line program.usage) new.errors × (status ≡ 2)
-
--- or there is no memory for its words, and it does nothing else than tell so
-abbrev pub IsUnkept : {R W E : Type 0} → Program → Steps E → Streams R W E → Streams R W E → ℕ → Type 0
-IsUnkept program takes_errors old new status =
-    (new.input ≡ old.input) × (new.output ≡ old.output)
-    × IsTold takes_errors old.errors (short_complaint program.name (fault_text [] Memory)) new.errors × (status ≡ 2)

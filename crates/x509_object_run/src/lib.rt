@@ -2,6 +2,7 @@
 //! an object is for a [`Printer`] to say, and which printer its words ask for for an [`Asked`]. Words of our own are explained in `docs/MAP.md`.
 #![tactic(auto)]
 
+mod below;
 mod console;
 mod fault;
 mod files;
@@ -18,7 +19,7 @@ mod words;
 
 pub use console::{Console, Counter};
 pub use fault::{Fault, Looks, OpenError, PrintError, fault_words, looks_of};
-pub use files::Opener;
+pub use files::{Listed, Opener, Place};
 pub use heading::{Headed, Heading, write_headed};
 pub use input::object_bytes;
 pub use label::word_label;

@@ -85,7 +85,7 @@ fn complain_shortly<P: Printer, E: Sink>(errors: &mut E, what: &'static [u8])
     tell_texts(errors, &[P::name(), b": ", what, b"\n"]);
 }
 
-/// Tells that there is no memory for the words.
+/// Tells that there is no memory for the words or for names of inputs.
 pub(crate) fn complain_of_memory<P: Printer, E: Sink>(errors: &mut E)
     ensures { IsTold E.takes errors.old (short_complaint P.program.name (fault_text [] Memory)) errors.new }
 {

@@ -1,11 +1,14 @@
 //! A run of a program over objects.
 
+ghost use Rattle.std.specs.Cow.{cow_str_bytes};
 ghost use Rattle.std.specs.Prelude.{◌≡◌, ◌⊎◌, [], map, string_bytes};
 ghost use Rattle.x509_object_run.specs.Faults.{fault_text, short_complaint};
-ghost use Rattle.x509_object_run.specs.Program.{AreDone, IsRun, IsTold, IsUnkept, are_headed, call_from, call_of, streams, world_of};
+ghost use Rattle.x509_object_run.specs.Program.{AreDone, AreNamedDone, IsRun, IsTold, IsUnkept, are_headed, call_from, call_of, streams, world_of};
 ghost use Rattle.x509_object_run.specs.Words.{inputs_of};
 ghost use Rattle.x509_object_run.specs.declared.fault.Fault.TheVariants.{Memory};
 
+use crate::below;
+use crate::below::Inputs;
 use crate::console::Console;
 use crate::files::Opener;
 use crate::messages::{complain_of_memory, say, say_version, tell_misuse};
@@ -15,7 +18,7 @@ use crate::words::{has_option, split};
 use std::alloc::{AllocError, Global};
 use x509_tool_run::{Sink, Source};
 
-/// Tells that there is no memory for the words, and answers the status.
+/// Tells that there is no memory for the words or for names of inputs, and answers the status.
 pub fn refuse_memory<P: Printer, E: Sink>(errors: &mut E) -> u8
     ensures { IsTold E.takes errors.old (short_complaint P.program.name (fault_text [] Memory)) errors.new × (result ≡ 2) }
 {
@@ -34,23 +37,24 @@ fn inputs_of<'a, 'b>(names: &'a [&'b str]) -> &'a [&'b str]
 fn show_inputs<P: Printer, R: Source, F: Source + Drop, O: Opener<F>, W: Sink, E: Console>(
     alloc: Global,
     printer: &P,
-    inputs: &[&str],
+    inputs: &Inputs<'_>,
     opener: &O,
     reader: &mut R,
     writer: &mut W,
     errors: &mut E,
 ) -> u8
-    ensures { AreDone P.program.name (P.subject printer.now) (world_of R.gives (O.opens opener.now) F.gives W.takes E.takes E.counts)
-        (are_headed (P.subject printer.now) (map (λ name. name.now) inputs.now)) (map (λ name. name.now) inputs.now)
+    ensures { AreDone P.program.name (P.subject printer.now) (world_of R.gives (O.opens opener.now) (O.lists opener.now) (O.stands opener.now) F.gives W.takes E.takes E.counts)
+        (are_headed (P.subject printer.now) inputs.now.has_directory (map cow_str_bytes inputs.now.names.items)) (map cow_str_bytes inputs.now.names.items)
         (streams reader.old writer.old errors.old) (streams reader.new writer.new errors.new) result }
 {
-    let headed = printer.headed(inputs.len() > 1);
+    let names = inputs.names.as_slice();
+    let headed = printer.headed(inputs.are_several());
     do_all(
-        alloc, printer, headed, inputs, opener, reader, writer, errors,
+        alloc, printer, headed, names, opener, reader, writer, errors,
     )
 }
 
-/// Shows the inputs that are named, or standard input where none is, and answers the greatest of their statuses.
+/// Shows the inputs that are named, or standard input where none is, and answers the greatest of their statuses. A directory stands for the files in it.
 pub fn show_all<P: Printer, R: Source, F: Source + Drop, O: Opener<F>, W: Sink, E: Console>(
     alloc: Global,
     printer: &P,
@@ -60,19 +64,13 @@ pub fn show_all<P: Printer, R: Source, F: Source + Drop, O: Opener<F>, W: Sink, 
     writer: &mut W,
     errors: &mut E,
 ) -> u8
-    ensures { AreDone P.program.name (P.subject printer.now) (world_of R.gives (O.opens opener.now) F.gives W.takes E.takes E.counts)
-        (are_headed (P.subject printer.now) (inputs_of (map (λ name. name.now) names.now))) (inputs_of (map (λ name. name.now) names.now))
-        (streams reader.old writer.old errors.old) (streams reader.new writer.new errors.new) result }
+    ensures { AreNamedDone P.program (P.subject printer.now) (world_of R.gives (O.opens opener.now) (O.lists opener.now) (O.stands opener.now) F.gives W.takes E.takes E.counts)
+        (inputs_of (map (λ name. name.now) names.now)) (streams reader.old writer.old errors.old) (streams reader.new writer.new errors.new) result }
 {
-    show_inputs(
-        alloc,
-        printer,
-        inputs_of(names),
-        opener,
-        reader,
-        writer,
-        errors,
-    )
+    match below::inputs_of::<F, O>(alloc, opener, inputs_of(names)) {
+        Ok(inputs) => show_inputs(alloc, printer, &inputs, opener, reader, writer, errors),
+        Err(AllocError) => refuse_memory::<P, E>(errors),
+    }
 }
 
 /// Does what options and names ask for, as [`run`] does.
@@ -85,7 +83,7 @@ pub fn obey<P: Asked, R: Source, F: Source + Drop, O: Opener<F>, W: Sink, E: Con
     writer: &mut W,
     errors: &mut E,
 ) -> u8
-    ensures { IsRun P.program P.subject (world_of R.gives (O.opens opener.now) F.gives W.takes E.takes E.counts)
+    ensures { IsRun P.program P.subject (world_of R.gives (O.opens opener.now) (O.lists opener.now) (O.stands opener.now) F.gives W.takes E.takes E.counts)
         (call_from P.asked P.misuse (map (λ option. option.now) options.now) (map (λ name. name.now) names.now))
         (streams reader.old writer.old errors.old) (streams reader.new writer.new errors.new) result }
 {
@@ -117,7 +115,7 @@ pub fn run<P: Asked, R: Source, F: Source + Drop, O: Opener<F>, W: Sink, E: Cons
     writer: &mut W,
     errors: &mut E,
 ) -> u8
-    ensures { IsRun P.program P.subject (world_of R.gives (O.opens opener.now) F.gives W.takes E.takes E.counts)
+    ensures { IsRun P.program P.subject (world_of R.gives (O.opens opener.now) (O.lists opener.now) (O.stands opener.now) F.gives W.takes E.takes E.counts)
         (call_of P.asked P.misuse (map string_bytes words.now)) (streams reader.old writer.old errors.old) (streams reader.new writer.new errors.new) result
         ⊎ IsUnkept P.program E.takes (streams reader.old writer.old errors.old) (streams reader.new writer.new errors.new) result }
 {

@@ -1,5 +1,6 @@
 //! What is printed of an input.
 
+ghost use Rattle.std.specs.Cow.{cow_str_bytes};
 ghost use Rattle.std.specs.Prelude.{◌≡◌, ℕ, [], IfOk, Option, map, max, string_bytes};
 ghost use Rattle.std.specs.Result.{result_map_both};
 ghost use Rattle.x509_object_run.specs.Faults.{complaint, fault_text};
@@ -16,6 +17,7 @@ use crate::lines::do_source;
 use crate::messages::{complain_of, tell_progress};
 use crate::printer::Printer;
 use std::alloc::{AllocError, Global};
+use std::borrow::CowStr;
 use x509_tool_run::{Sink, Source, write_text};
 
 /// Writes what is printed of bytes, under a heading where one is wanted; where they are no object it is told what they look like.
@@ -245,7 +247,7 @@ fn do_one<P: Printer, R: Source, F: Source + Drop, O: Opener<F>, W: Sink, E: Con
     writer: &mut W,
     errors: &mut E,
 ) -> u8
-    ensures { IsDone P.program.name (P.subject printer.now) (world_of R.gives (O.opens opener.now) F.gives W.takes E.takes E.counts) headed name.now
+    ensures { IsDone P.program.name (P.subject printer.now) (world_of R.gives (O.opens opener.now) (O.lists opener.now) (O.stands opener.now) F.gives W.takes E.takes E.counts) headed name.now
         (streams reader.old writer.old errors.old) (streams reader.new writer.new errors.new) result }
 {
     let label = label_of(name);
@@ -274,17 +276,18 @@ pub(crate) fn do_all<P: Printer, R: Source, F: Source + Drop, O: Opener<F>, W: S
     alloc: Global,
     printer: &P,
     headed: Headed,
-    names: &[&str],
+    names: &[CowStr<'_>],
     opener: &O,
     reader: &mut R,
     writer: &mut W,
     errors: &mut E,
 ) -> u8
-    ensures { AreDone P.program.name (P.subject printer.now) (world_of R.gives (O.opens opener.now) F.gives W.takes E.takes E.counts) headed
-        (map (λ name. name.now) names.now) (streams reader.old writer.old errors.old) (streams reader.new writer.new errors.new) result }
+    ensures { AreDone P.program.name (P.subject printer.now) (world_of R.gives (O.opens opener.now) (O.lists opener.now) (O.stands opener.now) F.gives W.takes E.takes E.counts) headed
+        (map cow_str_bytes names.now) (streams reader.old writer.old errors.old) (streams reader.new writer.new errors.new) result }
 {
     let mut worst = 0u8;
     for name in names {
+        let name = name.as_str();
         let status = do_one(alloc, printer, headed, name, opener, reader, writer, errors);
         worst = greater_of(worst, status);
     }

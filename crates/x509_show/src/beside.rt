@@ -90,7 +90,7 @@ fn show_below<R: Source, F: Source + Drop, O: Opener<F>, W: Sink, E: Console>(
     writer: &mut W,
     errors: &mut E,
 ) -> u8
-    ensures { IsBelow (world_of R.gives (O.opens opener.now) F.gives W.takes E.takes E.counts) issuer.now name.now above.now
+    ensures { IsBelow (world_of R.gives (O.opens opener.now) (O.lists opener.now) (O.stands opener.now) F.gives W.takes E.takes E.counts) issuer.now name.now above.now
         (streams reader.old writer.old errors.old) (streams reader.new writer.new errors.new) result }
 {
     let Ok(certificate) = CertificateRef::<Raw>::from_der(above) else {
@@ -117,7 +117,7 @@ fn show_beside<R: Source, F: Source + Drop, O: Opener<F>, W: Sink, E: Console>(
     writer: &mut W,
     errors: &mut E,
 ) -> u8
-    ensures { IsShownBeside (world_of R.gives (O.opens opener.now) F.gives W.takes E.takes E.counts) issuer.now name.now
+    ensures { IsShownBeside (world_of R.gives (O.opens opener.now) (O.lists opener.now) (O.stands opener.now) F.gives W.takes E.takes E.counts) issuer.now name.now
         (streams reader.old writer.old errors.old) (streams reader.new writer.new errors.new) result }
 {
     match read_named(alloc, issuer, opener, reader) {
@@ -145,7 +145,7 @@ fn do_asked<R: Source, F: Source + Drop, O: Opener<F>, W: Sink, E: Console>(
     writer: &mut W,
     errors: &mut E,
 ) -> u8
-    ensures { IsObeyed (world_of R.gives (O.opens opener.now) F.gives W.takes E.takes E.counts)
+    ensures { IsObeyed (world_of R.gives (O.opens opener.now) (O.lists opener.now) (O.stands opener.now) F.gives W.takes E.takes E.counts)
         (map (λ option. option.now) options.now) (map (λ name. name.now) names.now)
         (streams reader.old writer.old errors.old) (streams reader.new writer.new errors.new) result }
 {
@@ -165,7 +165,7 @@ pub(crate) fn show<R: Source, F: Source + Drop, O: Opener<F>, W: Sink, E: Consol
     writer: &mut W,
     errors: &mut E,
 ) -> u8
-    ensures { IsObeyed (world_of R.gives (O.opens opener.now) F.gives W.takes E.takes E.counts)
+    ensures { IsObeyed (world_of R.gives (O.opens opener.now) (O.lists opener.now) (O.stands opener.now) F.gives W.takes E.takes E.counts)
         (options_of (map string_bytes words.now)) (names_of (map string_bytes words.now))
         (streams reader.old writer.old errors.old) (streams reader.new writer.new errors.new) result
         ⊎ IsUnkept program E.takes (streams reader.old writer.old errors.old) (streams reader.new writer.new errors.new) result }

@@ -4,10 +4,10 @@ ghost use Rattle.std.specs.Prelude.{◌≡◌};
 
 use crate::checks::check_named;
 use std::alloc::Global;
+use x509_all_types::Types;
 use x509_base::{Raw, Rfc5280};
 use x509_codec::{Codec, ProfileName};
 use x509_der::{Error, ErrorKind};
-use x509_types::Types;
 
 /// The types of the library, of whose bytes the check is asked too. Where that says otherwise than the decoder, the answer is `Memory`, which no row has.
 pub(crate) struct Checked;

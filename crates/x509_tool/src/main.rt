@@ -2,8 +2,8 @@
 #![tactic(auto)]
 
 use std::process::ExitCode;
+use x509_all_types::Types;
 use x509_tool_run::{refuse_memory, run, words};
-use x509_types::Types;
 
 fn main(rt: HostRuntime) -> ExitCode {
     let alloc = rt.alloc();

@@ -22,7 +22,7 @@ pub use information::Information;
 pub use input::{INPUT_LIMIT, READ_LIMIT, ReadError, Source, read_input};
 pub use output::{Sink, WriteError, write_text, write_texts};
 pub use pem::{ends_line, pem_objects};
-pub use program::{bytes_of, refuse_memory, run};
+pub use program::{bytes_of, refuse_memory, run, run_without_paths};
 pub use refusal::Refusal;
 pub use scan::{Broken, Scan, Stage};
 pub use version::VERSION;

@@ -184,6 +184,32 @@ fn tell_of_itself<W: Sink>(writer: &mut W, words: &[String]) -> u8
     }
 }
 
+/// Does what [`run`] does where no path is asked for: `path` is no command here.
+pub fn run_without_paths<C: Codec + NameCodec, R: Source, W: Sink>(
+    alloc: Global,
+    words: &[String],
+    reader: &mut R,
+    writer: &mut W,
+) -> u8
+    // With other words nothing is read.
+    ensures untouched { command_of (map string_bytes words.now) ≡ None → reader.new ≡ reader.old }
+    ensures informs { IfSome (information_of (map string_bytes words.now)) (λ asked.
+        Says W.takes writer.old (information_text asked) 0 writer.new result) }
+    ensures usage { command_of (map string_bytes words.now) ≡ None → information_of (map string_bytes words.now) ≡ None
+        → Says W.takes writer.old usage 2 writer.new result }
+    ensures obeys { IfSome (command_of (map string_bytes words.now)) (λ command.
+        Obeys (codecs_of C.reencodes C.prints_name C.encodes_name) command
+        R.gives reader.old reader.new W.takes writer.old writer.new result) }
+{
+    let Some(command) = Command::from_words(words) else {
+        return tell_of_itself(writer, words);
+    };
+    match read_and_answer::<C, R>(alloc, command, reader) {
+        Ok(line) => say(writer, line.as_str().as_bytes(), 0),
+        Err(refusal) => say(writer, refusal.line(), 1),
+    }
+}
+
 /// Does what the words ask for with the input of the reader, by the decoders, encoders and checker of `C`: writes one line to
 /// the writer, and answers the status.
 pub fn run<C: Codec + NameCodec + PathCodec, R: Source, W: Sink>(
@@ -208,11 +234,5 @@ pub fn run<C: Codec + NameCodec + PathCodec, R: Source, W: Sink>(
     if let Some((accepted, moment)) = path_asked(words) {
         return check_and_say::<C, R, W>(alloc, accepted, moment, reader, writer);
     }
-    let Some(command) = Command::from_words(words) else {
-        return tell_of_itself(writer, words);
-    };
-    match read_and_answer::<C, R>(alloc, command, reader) {
-        Ok(line) => say(writer, line.as_str().as_bytes(), 0),
-        Err(refusal) => say(writer, refusal.line(), 1),
-    }
+    run_without_paths::<C, R, W>(alloc, words, reader, writer)
 }

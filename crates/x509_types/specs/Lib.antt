@@ -2,4 +2,4 @@ pub mod Reencoding
 pub mod Table
 pub mod Naming
 pub mod NameAnswers
-pub mod Paths
+pub mod RowLaws

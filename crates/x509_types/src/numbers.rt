@@ -8,7 +8,7 @@ use x509_der::Error;
 /// The last part of the table: BOOLEAN and the INTEGERs of the language's number types. Any other name is no type.
 pub struct Numbers;
 
-#[tactic(auto, using(crate::proofs::Rows::is_found, crate::proofs::Rows::is_passed))]
+#[tactic(auto, using(crate::specs::RowLaws::is_found, crate::specs::RowLaws::is_passed))]
 impl Table for Numbers {
     ghost use Rattle.std.specs.Prelude.{codes};
     ghost use Rattle.x509_types.specs.Table.{named, ◌otherwise◌};

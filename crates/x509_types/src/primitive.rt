@@ -14,7 +14,7 @@ pub struct Primitives<T> {
     rest: PhantomData<T>,
 }
 
-#[tactic(auto, using(crate::proofs::Rows::is_found, crate::proofs::Rows::is_passed))]
+#[tactic(auto, using(crate::specs::RowLaws::is_found, crate::specs::RowLaws::is_passed))]
 impl<T: Table> Table for Primitives<T> {
     ghost use Rattle.std.specs.Prelude.{codes};
     ghost use Rattle.x509_types.specs.Table.{named, ◌otherwise◌};

@@ -1,36 +1,25 @@
-//! The types of this library.
+//! The types of names and below.
 
-use crate::anchor::Anchors;
 use crate::base::Base;
-use crate::certificate::Certificates;
-use crate::constraint::Constraints;
-use crate::extension::Payloads;
-use crate::general_name::GeneralNameTypes;
+use crate::by_profile::ByProfile;
 use crate::name::Names;
-use crate::party::Parties;
-use crate::policy::Policies;
+use crate::numbers::Numbers;
 use crate::primitive::Primitives;
-use crate::revocation::Revocation;
-use crate::timestamp::Timestamps;
-use crate::{ByProfile, Numbers};
 use std::alloc::Global;
 use x509_base::{Raw, Rfc5280};
 use x509_codec::{Codec, NameCodec, ProfileName};
 use x509_der::{Decode, Error};
 use x509_name::name::{Name, RdnSequence};
 
-/// The types of this library.
-pub struct Types;
+/// The types of names and below: what stands on no extension.
+pub struct NameTypes;
 
-type Under<P> = Primitives<Base<P, Names<Payloads<GeneralNameTypes<Parties<Issued<P>>>>>>>;
-
-type Issued<P> = Timestamps<
-    Constraints<Policies<Revocation<Certificates<P, Anchors<P, Numbers>>>>>,
+type Tables = ByProfile<
+    Primitives<Base<Rfc5280, Names<Numbers>>>,
+    Primitives<Base<Raw, Names<Numbers>>>,
 >;
 
-type Tables = ByProfile<Under<Rfc5280>, Under<Raw>>;
-
-impl Codec for Types {
+impl Codec for NameTypes {
     ghost reencodes = { ⟦<Tables as Codec>⟧.reencodes };
 
     fn reencode(
@@ -44,7 +33,7 @@ impl Codec for Types {
 }
 
 #[tactic(auto, unfolding(crate::specs::Naming::PrintsName, crate::specs::Naming::EncodesName))]
-impl NameCodec for Types {
+impl NameCodec for NameTypes {
     ghost use Rattle.x509_types.specs.Naming.{PrintsName, EncodesName};
 
     ghost prints_name = { PrintsName };

@@ -1,4 +1,4 @@
-use Rattle.x509_types.proofs.Rows.{is_found, is_passed}
+use Rattle.x509_types.specs.RowLaws.{is_found, is_passed}
 use Rattle.x509_types.proofs.primitive.PrimitivesTable.reencode.Goals as goal
 
 pub returns-in-Ia5String : goal.returns-in-Ia5String

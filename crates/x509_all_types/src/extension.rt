@@ -1,6 +1,5 @@
 //! Extensions and those about keys: a part of the table.
 
-use crate::{Reencode, Table};
 use std::alloc::Global;
 use std::marker::PhantomData;
 use x509_der::Error;
@@ -8,13 +7,14 @@ use x509_ext::pkix::{
     BasicConstraints, ExtendedKeyUsage, KeyUsage, PrivateKeyUsagePeriod, SubjectKeyIdentifier,
 };
 use x509_ext::{Extension, Extensions};
+use x509_types::{Reencode, Table};
 
 /// Extensions and those about keys. Other names are looked up in the next part of the table.
 pub struct Payloads<T> {
     rest: PhantomData<T>,
 }
 
-#[tactic(auto, using(crate::proofs::Rows::is_found, crate::proofs::Rows::is_passed))]
+#[tactic(auto, using(x509_types::specs::RowLaws::is_found, x509_types::specs::RowLaws::is_passed))]
 impl<T: Table> Table for Payloads<T> {
     ghost use Rattle.std.specs.Prelude.{codes};
     ghost use Rattle.x509_types.specs.Table.{named, ◌otherwise◌};

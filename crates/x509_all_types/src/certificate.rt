@@ -1,6 +1,5 @@
 //! Certificates, CRLs and CSRs: a part of the table.
 
-use crate::{Reencode, Table};
 use std::alloc::Global;
 use std::marker::PhantomData;
 use x509_base::Profile;
@@ -8,13 +7,14 @@ use x509_cert::certificate::{CertificateInner, TbsCertificateInner, Version};
 use x509_cert::crl::{CertificateList, RevokedCert, TbsCertList};
 use x509_cert::request::{CertReq, CertReqInfo, ExtensionReq};
 use x509_der::{Error, SequenceOf};
+use x509_types::{Reencode, Table};
 
 /// Certificates, CRLs and CSRs. Other names are looked up in the next part of the table.
 pub struct Certificates<P, T> {
     rest: PhantomData<(P, T)>,
 }
 
-#[tactic(auto, using(crate::proofs::Rows::is_found, crate::proofs::Rows::is_passed))]
+#[tactic(auto, using(x509_types::specs::RowLaws::is_found, x509_types::specs::RowLaws::is_passed))]
 impl<P: Profile, T: Table> Table for Certificates<P, T> {
     ghost use Rattle.std.specs.Prelude.{codes};
     ghost use Rattle.x509_types.specs.Table.{named, ◌otherwise◌};

@@ -1,18 +1,18 @@
 //! The extensions of CRLs: a part of the table.
 
-use crate::{Reencode, Table};
 use std::alloc::Global;
 use std::marker::PhantomData;
 use x509_der::Error;
 use x509_ext::pkix::crl::dp::Reasons;
 use x509_ext::pkix::{BaseCrlNumber, CertificateIssuer, CrlNumber, CrlReason};
+use x509_types::{Reencode, Table};
 
 /// The extensions of CRLs. Other names are looked up in the next part of the table.
 pub struct Revocation<T> {
     rest: PhantomData<T>,
 }
 
-#[tactic(auto, using(crate::proofs::Rows::is_found, crate::proofs::Rows::is_passed))]
+#[tactic(auto, using(x509_types::specs::RowLaws::is_found, x509_types::specs::RowLaws::is_passed))]
 impl<T: Table> Table for Revocation<T> {
     ghost use Rattle.std.specs.Prelude.{codes};
     ghost use Rattle.x509_types.specs.Table.{named, ◌otherwise◌};

@@ -1,18 +1,18 @@
 //! Trust anchors.
 
-use crate::{Reencode, Table};
 use std::alloc::Global;
 use std::marker::PhantomData;
 use x509_base::Profile;
 use x509_cert::anchor::{CertPathControls, CertPolicies, TrustAnchorChoice, TrustAnchorInfo};
 use x509_der::Error;
+use x509_types::{Reencode, Table};
 
 /// Trust anchors.
 pub struct Anchors<P, T> {
     rest: PhantomData<(P, T)>,
 }
 
-#[tactic(auto, using(crate::proofs::Rows::is_found, crate::proofs::Rows::is_passed))]
+#[tactic(auto, using(x509_types::specs::RowLaws::is_found, x509_types::specs::RowLaws::is_passed))]
 impl<P: Profile, T: Table> Table for Anchors<P, T> {
     ghost use Rattle.std.specs.Prelude.{codes};
     ghost use Rattle.x509_types.specs.Table.{named, ◌otherwise◌};

@@ -1,6 +1,5 @@
 //! The extensions about the subject and the issuer: a part of the table.
 
-use crate::{Reencode, Table};
 use std::alloc::Global;
 use std::marker::PhantomData;
 use x509_der::Error;
@@ -8,13 +7,14 @@ use x509_ext::pkix::{
     AccessDescription, AuthorityInfoAccessSyntax, AuthorityKeyIdentifier, IssuerAltName,
     SubjectAltName, SubjectDirectoryAttributes, SubjectInfoAccessSyntax,
 };
+use x509_types::{Reencode, Table};
 
 /// The extensions about the subject and the issuer. Other names are looked up in the next part of the table.
 pub struct Parties<T> {
     rest: PhantomData<T>,
 }
 
-#[tactic(auto, using(crate::proofs::Rows::is_found, crate::proofs::Rows::is_passed))]
+#[tactic(auto, using(x509_types::specs::RowLaws::is_found, x509_types::specs::RowLaws::is_passed))]
 impl<T: Table> Table for Parties<T> {
     ghost use Rattle.std.specs.Prelude.{codes};
     ghost use Rattle.x509_types.specs.Table.{named, ◌otherwise◌};

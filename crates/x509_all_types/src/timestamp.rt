@@ -1,17 +1,17 @@
 //! Lists of signed certificate timestamps (SCTs): a part of the table.
 
-use crate::{Reencode, Table};
 use std::alloc::Global;
 use std::marker::PhantomData;
 use x509_der::Error;
 use x509_sct::SignedCertificateTimestampList;
+use x509_types::{Reencode, Table};
 
 /// Lists of signed certificate timestamps (SCTs). Other names are looked up in the next part of the table.
 pub struct Timestamps<T> {
     rest: PhantomData<T>,
 }
 
-#[tactic(auto, using(crate::proofs::Rows::is_found, crate::proofs::Rows::is_passed))]
+#[tactic(auto, using(x509_types::specs::RowLaws::is_found, x509_types::specs::RowLaws::is_passed))]
 impl<T: Table> Table for Timestamps<T> {
     ghost use Rattle.std.specs.Prelude.{codes};
     ghost use Rattle.x509_types.specs.Table.{named, ◌otherwise◌};

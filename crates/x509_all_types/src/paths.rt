@@ -8,7 +8,7 @@ ghost use Rattle.x509_der.specs.declared.error.ErrorKind.TheVariants.{Memory};
 ghost use Rattle.x509_der.specs.Form.{Spells};
 ghost use Rattle.x509_path.specs.Path.{Answers, subject_of};
 ghost use Rattle.x509_types.specs.Reencoding.{IsRefused};
-ghost use Rattle.x509_types.specs.Paths.{ChecksUnder, Tells, accepting, is_echo};
+ghost use Rattle.x509_all_types.specs.Paths.{ChecksUnder, Tells, accepting, is_echo};
 
 use crate::types::Types;
 use std::alloc::Global;
@@ -126,7 +126,7 @@ fn check_under(
 
 #[tactic(auto, unfolding(crate::specs::Paths::ChecksAccepted))]
 impl PathCodec for Types {
-    ghost use Rattle.x509_types.specs.Paths.{ChecksAccepted};
+    ghost use Rattle.x509_all_types.specs.Paths.{ChecksAccepted};
 
     ghost checks_path = { ChecksAccepted ⟦<Certificate as Grammar>⟧.refuses };
 

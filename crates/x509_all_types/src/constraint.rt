@@ -1,6 +1,5 @@
 //! Name constraints and CRL distribution points: a part of the table.
 
-use crate::{Reencode, Table};
 use std::alloc::Global;
 use std::marker::PhantomData;
 use x509_der::Error;
@@ -9,13 +8,14 @@ use x509_ext::pkix::crl::dp::DistributionPoint;
 use x509_ext::pkix::{
     CrlDistributionPoints, FreshestCrl, IssuingDistributionPoint, NameConstraints,
 };
+use x509_types::{Reencode, Table};
 
 /// Name constraints and CRL distribution points. Other names are looked up in the next part of the table.
 pub struct Constraints<T> {
     rest: PhantomData<T>,
 }
 
-#[tactic(auto, using(crate::proofs::Rows::is_found, crate::proofs::Rows::is_passed))]
+#[tactic(auto, using(x509_types::specs::RowLaws::is_found, x509_types::specs::RowLaws::is_passed))]
 impl<T: Table> Table for Constraints<T> {
     ghost use Rattle.std.specs.Prelude.{codes};
     ghost use Rattle.x509_types.specs.Table.{named, ◌otherwise◌};

@@ -1,7 +1,0 @@
-use Rattle.std.proofs.Common.{sym, ◌∙◌, Err}
-use Rattle.x509_tool_run.specs.Answer.{text_of}
-use Rattle.x509_tool_run.proofs.program.run.Goals as goal
-
-pub returns-in-Err-clause-obeys : goal.returns-in-Err-clause-obeys
-returns-in-Err-clause-obeys g c =
-    rw (sym c.from_words.ensures ∙ c.in-Some-from_words.is) (Err c.in-Err.refusal, c.in-Err.ensures, c.say-in-Err.ensures (text_of (Err c.in-Err.refusal)) c.line.ensures)
