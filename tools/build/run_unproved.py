@@ -12,18 +12,10 @@ import subprocess
 import sys
 
 sys.path.insert(0, str(pathlib.Path(__file__).resolve().parents[1]))
-from common.crates import TOP, crates_below, minutes_of, path_of
+from common.crates import TOP, crate_of, crates_below, minutes_of, path_of
 
 NO_ANSWER = 3
-# Types of x509_tool that x509_name_tool hasn't. All else is answered alike by both, but for `path`.
-ABOVE_NAMES = {"anchor", "certificate", "crl", "extensions", "general-names", "request"}
 OWN_LINES = re.compile(rb"^(interpreter|checked|run): ?|^run=")
-
-
-def crate_of(program, words):
-    """The crate that answers the program's words: of x509_tool a smaller one where that answers alike, since half as much is read for it."""
-    is_above = words[:1] == ["path"] or (words[:1] == ["reencode"] and not ABOVE_NAMES.isdisjoint(words[1:2]))
-    return "x509_name_tool" if program == "x509_tool" and not is_above else program
 
 
 def notice(program, crate):

@@ -3,6 +3,8 @@ import pathlib
 import re
 
 TOP = pathlib.Path(__file__).resolve().parents[2]
+# Types of x509_tool that x509_name_tool hasn't. All else is answered alike by both, but for `path`.
+ABOVE_NAMES = {"anchor", "certificate", "crl", "extensions", "general-names", "request"}
 
 
 def crates_below():
@@ -30,6 +32,12 @@ def path_of(name, named):
             found.add(crate)
             todo += named[crate]
     return found
+
+
+def crate_of(program, words):
+    """The crate that answers the program's words: of x509_tool a smaller one where that answers alike, since half as much is read for it."""
+    is_above = words[:1] == ["path"] or (words[:1] == ["reencode"] and not ABOVE_NAMES.isdisjoint(words[1:2]))
+    return "x509_name_tool" if program == "x509_tool" and not is_above else program
 
 
 def costs():

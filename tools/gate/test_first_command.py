@@ -14,8 +14,7 @@ import time
 import tomllib
 
 sys.path.insert(0, str(pathlib.Path(__file__).resolve().parents[1]))
-from build.run_unproved import ABOVE_NAMES, crate_of
-from common.crates import crates_below, lines_of, path_of
+from common.crates import ABOVE_NAMES, crate_of, crates_below, lines_of, path_of
 
 TOP = pathlib.Path(__file__).resolve().parents[2]
 # What takes long to read, and serves no type: matching of names, paths that are validated, and tables of Unicode.
