@@ -1,7 +1,7 @@
 #!/usr/bin/env python3
 """Makes the end of docs/DEFINITIONS.md: by crate, lowest first, the files of `specs` whose comment in front names a section of a standard, without their
-ending, and the sections in brackets, of RFC 5280 these alone; and how many others there are. Of some crates the number alone. Not counted are files of
-laws, of equalities and of how types lie in the toolchain's logic.
+ending, and the sections in brackets, of RFC 5280 these alone; of some crates the number of files alone; and how many others there are in all. Not counted are
+files of laws, of equalities and of how types lie in the toolchain's logic.
 
 With `--check` it fails where the page has another text, or a file begins with no comment.
 """
@@ -41,20 +41,21 @@ def sections(text):
 
 
 def made():
-    lines, count = [], 0
+    lines, count, others = [], 0, 0
     for crate in crates_below():
         specs = TOP / "crates" / crate / "specs"
         files = {it.relative_to(specs).with_suffix("").as_posix(): begins(it) for it in sorted(specs.rglob("*.antt")) if not LEFT_OUT.fullmatch(it.stem)}
         if "" in files.values():
             raise ValueError(f"a file of {crate} begins with no comment")
         told = {name: sections(text) for name, text in files.items()}
-        if files:
-            named = [f"{name} ({it})" for name, it in told.items() if it and crate not in KINDS]
-            others = len(files) - len(named)
-            more = [f"{others} {KINDS.get(crate, 'of no section')}"] if others else []
-            lines += listed(f"`{crate}`: " + ", ".join(named + more))
+        if crate in KINDS:
+            lines += listed(f"`{crate}`: {len(files)} {KINDS[crate]}")
+        else:
+            named = [f"{name} ({it})" for name, it in told.items() if it]
+            others += len(files) - len(named)
+            lines += listed(f"`{crate}`: " + ", ".join(named)) if named else []
         count += len(files)
-    return ["", *lines], f"{count} files of definitions"
+    return ["", *lines, f"- {others} files of no section"], f"{count} files of definitions"
 
 
 if __name__ == "__main__":
