@@ -34,11 +34,9 @@ HEAD = f"""# What RFC 5280 says, and the rules of `x509_lint`
 
 {zlint_names.HEAD}
 `tools/gate/list_rules.py` makes this page of `tools/data/rfc5280.txt`, `tools/data/zlint.txt` and the rules in `crates/x509_lint/src/rule`. Each line has what
-a section of RFC 5280, or of another standard that is named, says MUST or SHOULD hold, in our own words, and the rule that tells where it is broken. GRAMMAR
-stands for a size or a type of the ASN.1. To break a rule is an error behind MUST, MUST NOT and GRAMMAR, and a warning behind SHOULD and SHOULD NOT, where no
-other word stands behind it. Whether one is broken is a definition of `crates/x509_lint/specs`, in the file of its group, and `lint_certificate`, `lint_crl`,
-`lint_request` and `lint_anchor` are proved to find it exactly there. Sentences without a rule stand in `tools/data/rfc5280.txt`, each with why there is none;
-how many there are of each kind is in brackets:
+RFC 5280, or another standard that is named, says MUST or SHOULD hold, in our own words, and the rule for it. GRAMMAR: a size or a type of the ASN.1. A broken
+rule is an error behind MUST, MUST NOT and GRAMMAR, a warning behind SHOULD and SHOULD NOT, where no other word is given. The calls are proved to find exactly
+the broken ones, by the definitions of `crates/x509_lint/specs`. Sentences without a rule are in `tools/data/rfc5280.txt`; why, and in brackets how many:
 
 """
 
@@ -112,9 +110,9 @@ def told_of(name, usual, rules, lints):
 
 
 def answer(sentence, rules, lints):
-    """What is said behind a sentence: its rules, and why there are none or not all."""
+    """What is said behind a sentence: its rules, each name once, and why there are none or not all."""
     usual = "warning" if sentence["text"].startswith("SHOULD") else "error"
-    told = [told_of(name, usual, rules, lints) for name in sentence["rules"]]
+    told = list(dict.fromkeys(told_of(name, usual, rules, lints) for name in sentence["rules"]))
     why = [f"*{kind}*{': ' + more if more else ''}" for kind, more in sentence["reasons"]]
     return "; ".join(filter(None, [", ".join(told), "; ".join(why)]))
 

@@ -18,11 +18,10 @@ SEVERITIES = {"must": "error", "should": "warning"}
 HEAD = f"""# The rules of `x509_lint_web`, with sections and days from memory of version 2.1
 
 {zlint_names.HEAD}
-`tools/gate/list_web_rules.py` makes this page of `tools/data/zlint.txt` and the rules in `crates/x509_lint_web/src/rule`: those of the Baseline Requirements
-for TLS server certificates (TLS BR) of the CA/Browser Forum, of version 2.0 and later, that a certificate alone shows. Whether a rule is broken is a definition
-of `crates/x509_lint_web/specs`, in the file of its group; `lint_web` is proved to find exactly the rules that are in force at a validation time and broken, and
-`x509_linter --web MOMENT` prints these, of a MOMENT as `2026-03-15T00:00:00Z`, or `not-before` for the notBefore of each certificate. Behind what breaks a rule
-stand its section, `warning` where that is no error, and the day from which it is in force; without a day it was from the beginning.
+`tools/gate/list_web_rules.py` makes this page of `tools/data/zlint.txt` and `crates/x509_lint_web/src/rule`: the rules of the CA/Browser Forum's Baseline
+Requirements for TLS server certificates (TLS BR), of version 2.0 and later, that a certificate alone shows. `lint_web` is proved to find exactly those that are
+in force at a validation time and broken, by the definitions of `crates/x509_lint_web/specs`; `x509_linter --web MOMENT` prints them. In brackets: the section,
+`warning` where that is no error, and the day from which on a rule is in force; without one it was from the beginning.
 
 - A certificate of a *TLS server* has no basic constraints, or ones that are read and don't set cA, and no EKU, or one that is read and has serverAuth.
 - One of an *authority that may stand above TLS servers* has basic constraints that are read and set cA, and such an EKU or none. One of these is that of a
@@ -65,7 +64,7 @@ def made():
             end = f" (TLS BR {section}, {severity}{f', from {date}' if date else ''})."
             if not docs.endswith(end):
                 faults.append(f"the docs of {variant} don't end in{end}")
-            told = [section, "" if severity == "error" else severity, date and f"from {date}"]
+            told = [section, "" if severity == "error" else severity, date]
             beside = f" {lints.of(name)}." if lints.of(name) else ""
             lines.append(f"- `{name}`: {docs.removesuffix(end)} ({', '.join(filter(None, told))}).{beside}\n")
     counts = f"{len(names)} rules, {len(lints.beside)} of them with lints of zlint.\n"

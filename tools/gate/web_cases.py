@@ -540,7 +540,7 @@ GROUPS = (
 
 def rules_of_page():
     """Of each rule of docs/WEB_RULES.md, in their order, its severity, its section, and the day from which on it is in force, or nothing."""
-    rows = re.findall(r"^- `(\w+)`: .* \(([0-9.]+)(?:, (warning))?(?:, from ([0-9-]+))?\)\.(?: zlint: .*)?$", PAGE.read_text(encoding="utf-8"), re.M)
+    rows = re.findall(r"^- `(\w+)`: .* \(([0-9.]+)(?:, (warning))?(?:, ([0-9-]+))?\)\.(?: `.*)?$", PAGE.read_text(encoding="utf-8"), re.M)
     return {rule: (severity or "error", section, day) for rule, section, severity, day in rows}
 
 

@@ -10,8 +10,8 @@ LINT = re.compile(r"[ewn]_[a-z0-9_]+")
 MOST = 3
 # what begins a line that has no rule
 TWICE, OTHERS = "twice ", "- "
-HEAD = """A lint of zlint 3 that is named beside a rule asks for the same requirement or a part of it, maybe with other limits; the names are from memory of zlint's
-sources. A rule beside which none is named may have one all the same. Other lints are at the end of the page.
+HEAD = """Behind a rule stand lints of zlint 3 (`e_`, `w_`, `n_`) that ask for the same or a part of it, maybe with other limits. Their names are from memory:
+a rule without one may have one all the same. Other lints are at the end.
 """
 
 
@@ -40,8 +40,7 @@ class Lints:
 
     def of(self, rule):
         """What is said of a rule: its lints, or nothing."""
-        found = dict(self.beside).get(rule)
-        return f"zlint: {quoted(found)}" if found else ""
+        return quoted(dict(self.beside).get(rule, ()))
 
     def end(self):
         """The end of the page: the lints beside no rule."""
