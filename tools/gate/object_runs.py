@@ -5,11 +5,17 @@ What is to be printed is stated here by hand, but for the texts that are handed 
 import base64
 import os
 import pathlib
+import shutil
 import subprocess
+import sys
 import tempfile
 import tomllib
 
+sys.path.insert(0, str(pathlib.Path(__file__).resolve().parents[1]))
+from common.der import context, integer, object_identifier, octet_string, sequence, set_of
+
 TOP = pathlib.Path(__file__).resolve().parents[2]
+DATA, SIGNED_DATA = object_identifier(1, 2, 840, 113549, 1, 7, 1), object_identifier(1, 2, 840, 113549, 1, 7, 2)
 NO_END, OTHER_END = "no line ends its PEM", "the line that ends its PEM hasn't the label of the one that begins it"
 NO_BASE64 = "what stands in its PEM is no base64"
 PEM = {
@@ -65,6 +71,16 @@ def pem_of(data):
         found = f"-----BEGIN {label}-----\n{body}-----END {label}-----\n"
         ends = (found.replace("\n", end) for end in ("\r\n", "\r", " \t\n", "\n\n"))
         yield from (it.encode() for it in (found, *ends, found.rstrip(), f"Subject: ö\n\n{found}a comment\n"))
+
+
+def info_of(content, content_type=SIGNED_DATA):
+    """A ContentInfo (RFC 5652 3)."""
+    return sequence(content_type, context(0, content))
+
+
+def signed_data(*elements):
+    """A SignedData of no signer, and with these elements for its certificates and CRLs (RFC 5652 5.1)."""
+    return info_of(sequence(integer(1), set_of(), sequence(DATA), *elements, set_of()))
 
 
 def version():
@@ -161,6 +177,8 @@ class Program:
             yield "a file of which a read fails", ["/proc/self/mem"], b"", self.told("/proc/self/mem", "can't be read")
         yield from self.several(paths, missing)
         yield from self.bundles(folder / "chain.pem")
+        yield from self.signed(folder)
+        yield from self.signed_by_openssl(folder)
         yield from self.directories(folder, paths[0])
 
     def bundles(self, path):
@@ -195,6 +213,104 @@ class Program:
         first = self.objects[0]
         heading = f"standard input:\n{first[1]}" if first[1] else ""
         yield "PEM of several objects and a file", [str(path), "-"], first[0], (max(statuses), texts(path) + heading, "")
+
+    def numbered(self, label, objects):
+        """What is printed of these objects of an input of several."""
+        return "".join(f"{label}, object {at}:\n{text}" if text else "" for at, (_, text, _) in enumerate(objects, 1))
+
+    def signed(self, folder):
+        """A SignedData, which stands for the certificates and CRLs in it (RFC 5652 5.1)."""
+        path, octets, label = folder / "bundle.p7b", [data for data, _, _ in self.objects], "standard input"
+        for at, (data, text, status) in enumerate(self.objects):
+            for field in (0, 1):
+                yield f"a SignedData with the object {at} alone under [{field}]", [], signed_data(context(field, data)), (status, text, "")
+        data, text, status = self.objects[0]
+        one = signed_data(context(0, data))
+        for armoured in pem_of(one):
+            yield f"a SignedData with one object in PEM, {armoured[:20]}", [], armoured, (status, text, "")
+        yield "a SignedData with one object and an empty field", [], signed_data(context(0, data), context(1)), (status, text, "")
+        several = signed_data(context(0, *octets[:-1]), context(1, octets[-1]))
+        path.write_bytes(several)
+        worst = max(status for _, _, status in self.objects)
+        found = (worst, self.numbered(label, self.objects), "")
+        yield "a SignedData", [str(path)], b"", (worst, self.numbered(path, self.objects), "")
+        yield "a SignedData on standard input", [], several, found
+        yield "a SignedData in hex", [], several.hex(":").encode() + b"\n", found
+        yield "a SignedData in PEM", [], next(pem_of(several)).replace(b"CERTIFICATE", b"PKCS7"), found
+        yield "a SignedData whose objects stand the other way round", [], signed_data(context(0, *octets[::-1])), (worst, self.numbered(label, self.objects[::-1]), "")
+        signer = sequence(integer(1), sequence(), sequence(), sequence(), octet_string(b"\xff"))
+        full = sequence(integer(3), set_of(sequence(DATA)), sequence(DATA, context(0, octet_string(b"text"))), context(0, *octets), set_of(signer))
+        yield "a SignedData with a signer", [], info_of(full), found
+        pem = b"".join(next(pem_of(it)) for it in (several, octets[0], one))
+        objects = self.objects + self.objects[:1] * 2
+        yield "PEM of a SignedData, an object and another SignedData", [], pem, (worst, self.numbered(label, objects), "")
+        said = f"{self.name}: {label}, object 2: {self.no_object}{NO_SEQUENCE}\n"
+        objects = [self.objects[0], (b"", "", 2), *self.objects[1:]]
+        odd = signed_data(context(0, octets[0], context(3, DATA, sequence()), *octets[1:]))
+        yield "a SignedData with a certificate in another form", [], odd, (2, self.numbered(label, objects), said)
+        said = f"{self.name}: {label}, object 2: {self.no_object}{WHOLE}\n"
+        nested = signed_data(context(0, octets[0], one, *octets[1:]))
+        yield "a SignedData in a SignedData", [], nested, (2, self.numbered(label, objects), said)
+        for name, data, reason in (
+            ("without certificates and CRLs", signed_data(), WHOLE),
+            ("of no certificates", signed_data(context(0)), WHOLE),
+            ("of no certificates and no CRLs", signed_data(context(0), context(1)), WHOLE),
+            ("whose last octet is missing", several[:-1], UNFINISHED),
+            ("with a certificate whose last octet is missing", signed_data(context(0, octets[0][:-1])), WHOLE),
+            ("with an octet behind a certificate", signed_data(context(0, octets[0], b"\0")), WHOLE),
+            ("with an octet behind it", one + b"\0", looks(one + b"\0")),
+            ("with an octet behind its signers", info_of(sequence(integer(1), set_of(), sequence(DATA), context(0, octets[0]), set_of(), b"\0")), WHOLE),
+            ("with its fields in another order", signed_data(context(1, octets[0]), context(0, octets[0])), WHOLE),
+            ("with a field that is none", signed_data(context(0, octets[0]), context(2, octets[0])), WHOLE),
+            ("without its version", info_of(sequence(set_of(), sequence(DATA), context(0, octets[0]), set_of())), WHOLE),
+            ("without its algorithms", info_of(sequence(integer(1), sequence(DATA), context(0, octets[0]), set_of())), WHOLE),
+            ("without its content", info_of(sequence(integer(1), set_of(), context(0, octets[0]), set_of())), WHOLE),
+            ("without its signers", info_of(sequence(integer(1), set_of(), sequence(DATA), context(0, octets[0]))), WHOLE),
+            ("of another content type", sequence(DATA, context(0, sequence(integer(1), set_of(), sequence(DATA), context(0, octets[0]), set_of()))), WHOLE),
+            ("under another tag", sequence(SIGNED_DATA, context(1, sequence(integer(1), set_of(), sequence(DATA), context(0, octets[0]), set_of()))), WHOLE),
+            ("with something behind its content", sequence(SIGNED_DATA, context(0, sequence(integer(1), set_of(), sequence(DATA), context(0, octets[0]), set_of())), integer(1)), WHOLE),
+            ("without the type of its content", sequence(integer(1), set_of(), sequence(DATA), context(0, octets[0]), set_of()), WHOLE),
+        ):
+            yield f"a SignedData {name}", [], data, self.told(label, self.no_object + reason)
+        within = folder / "signed"
+        within.mkdir()
+        (within / "one.p7c").write_bytes(one)
+        (within / "several.p7b").write_bytes(several)
+        heading = f"{within}/one.p7c:\n{text}" if text else ""
+        yield "a directory with SignedData in it", [str(within)], b"", (worst, heading + self.numbered(within / "several.p7b", self.objects), "")
+
+    def signed_by_openssl(self, folder):
+        """PKCS #7 that OpenSSL makes of those among the objects that it takes for certificates and CRLs."""
+        if not shutil.which("openssl"):
+            return
+        certificates, crls, label = folder / "certificates.pem", folder / "crl.pem", "standard input"
+
+        def made(*words):
+            return subprocess.run(["openssl", "crl2pkcs7", "-outform", "DER", *words], stdout=subprocess.PIPE, stderr=subprocess.DEVNULL, check=False)
+
+        def is_taken(data):
+            certificates.write_bytes(next(pem_of(data)))
+            return made("-nocrl", "-certfile", certificates).returncode == 0
+
+        def is_crl(data):
+            crls.write_bytes(next(pem_of(data)).replace(b"CERTIFICATE", b"X509 CRL"))
+            return made("-in", crls).returncode == 0
+
+        taken = [it for it in self.objects if is_taken(it[0])]
+        certificates.write_bytes(b"".join(next(pem_of(data)) for data, _, _ in taken))
+        if len(taken) > 1:
+            worst = max(status for _, _, status in taken)
+            bundle = made("-nocrl", "-certfile", certificates).stdout
+            yield "PKCS #7 of OpenSSL", [], bundle, (worst, self.numbered(label, taken), "")
+            yield "PKCS #7 of OpenSSL in PEM", [], next(pem_of(bundle)).replace(b"CERTIFICATE", b"PKCS7"), (worst, self.numbered(label, taken), "")
+        lists = [it for it in self.objects if is_crl(it[0])]
+        for data, text, status in lists[:1]:
+            crls.write_bytes(next(pem_of(data)).replace(b"CERTIFICATE", b"X509 CRL"))
+            yield "PKCS #7 of OpenSSL with a CRL", [], made("-in", crls).stdout, (status, text, "")
+            if taken:
+                found = [*taken, (data, text, status)]
+                bundle, worst = made("-in", crls, "-certfile", certificates).stdout, max(status for _, _, status in found)
+                yield "PKCS #7 of OpenSSL with certificates and a CRL", [], bundle, (worst, self.numbered(label, found), "")
 
     def several(self, paths, missing):
         data = self.objects[0][0]

@@ -125,6 +125,9 @@ RESPONDER = {
     "issuer_key": (x509.AuthorityKeyIdentifier(KEY_ID, None, None), False),
     "no_check": (x509.OCSPNoCheck(), False),
 }
+PRECERTIFICATE_SIGNING = ObjectIdentifier("1.3.6.1.4.1.11129.2.4.4")
+SIGNER = ABOVE_SERVERS | {"purposes": (key_purposes(PRECERTIFICATE_SIGNING), False)}
+TIMESTAMPS = x509.UnrecognizedExtension(ObjectIdentifier("1.3.6.1.4.1.11129.2.4.2"), b"\4\2\0\0")
 # the order of attributes
 ORDER = [
     *(NameOID.DOMAIN_COMPONENT, COUNTRY, STATE, LOCALITY, NameOID.POSTAL_CODE, STREET),
@@ -192,6 +195,11 @@ def responder(**changed):
     return certificate(**{"extensions": RESPONDER, "subject": subject, "days": 90, **changed})
 
 
+def signer(**changed):
+    """One of an authority that signs precertificates and breaks no rule, changed so."""
+    return authority(**{"extensions": SIGNER, **changed})
+
+
 def modulus(factor=1, others=SMALL_PRIMES, above=0):
     """The octets of an odd multiple of the factor near the modulus of the key; together with what stands above, none of the others divides it."""
     number = int.from_bytes(MODULUS, "big") // (2 * factor) * (2 * factor) + factor
@@ -216,6 +224,7 @@ def clean_ones():
     yield authority(), ""
     yield root(), ""
     yield responder(), ""
+    yield signer(), ""
     for policy in ATTRIBUTES:
         yield validated(policy), ""
 
@@ -359,9 +368,10 @@ def usage_rules():
     purposes = ExtendedKeyUsageOID
     yield server(purposes=None), "extended_key_usage_absent"
     named = (purposes.CODE_SIGNING, purposes.EMAIL_PROTECTION, purposes.TIME_STAMPING, purposes.OCSP_SIGNING, purposes.ANY_EXTENDED_KEY_USAGE)
-    for purpose in (*named, ObjectIdentifier("1.3.6.1.4.1.11129.2.4.4")):
+    for purpose in (*named, PRECERTIFICATE_SIGNING):
+        signs = " precertificate_signer_purpose_other" if purpose == PRECERTIFICATE_SIGNING else ""
         yield server(purposes=key_purposes(SERVER_AUTH, purpose)), "extended_key_usage_forbidden"
-        yield authority(purposes=key_purposes(SERVER_AUTH, purpose)), "ca_extended_key_usage_forbidden"
+        yield authority(purposes=key_purposes(SERVER_AUTH, purpose)), "ca_extended_key_usage_forbidden" + signs
         if purpose != OCSP_SIGNING:
             yield server(purposes=key_purposes(purpose)), ""
     yield server(purposes=key_purposes(SERVER_AUTH, ObjectIdentifier("1.2.3.4"))), "extended_key_usage_other"
@@ -394,15 +404,15 @@ def policy_rules():
     yield validated(without=[ORGANIZATION]), "organization_validated_without_organization"
     yield validated(without=[COUNTRY]), "organization_validated_without_country"
     yield server(accesses=None), "authority_info_access_absent"
-    yield server(accesses=accesses((ObjectIdentifier("1.3.6.1.5.5.7.48.5"), "http://o"))), "access_method_other"
+    yield server(accesses=accesses((ObjectIdentifier("1.3.6.1.5.5.7.48.5"), "http://o"))), "access_method_other ocsp_access_absent"
     yield server(accesses=accesses((OCSP, "https://o"))), "access_location_not_http"
     of_issuer = accesses((CA_ISSUERS, "http://o.example.net/i"))
     over_7, over_10 = "revocation_absent_over_7_days", "revocation_absent_over_7_days revocation_absent_over_10_days"
     for days, lasts, rules in ((7, -SECOND, ""), (7, 0 * SECOND, over_7), (10, -SECOND, over_7), (10, 0 * SECOND, over_10)):
-        yield server(points=None, accesses=of_issuer, days=days, lasts=lasts), rules
+        yield server(points=None, accesses=of_issuer, days=days, lasts=lasts), f"ocsp_access_absent {rules}"
         yield server(points=None, accesses=None, days=days, lasts=lasts), f"authority_info_access_absent {rules}"
     yield server(points=None), ""
-    yield server(accesses=of_issuer), ""
+    yield server(accesses=of_issuer), "ocsp_access_absent"
 
 
 def authority_rules():
@@ -482,7 +492,7 @@ def root_rules():
     yield root(constraints=x509.BasicConstraints(True, 0)), "root_path_len_present"
     yield root(accesses=accesses((OCSP, "http://o.example.net"))), "root_extension_other"
     yield root(names=hosts("a.example.com")), "root_extension_other"
-    yield root(timestamps=x509.UnrecognizedExtension(ObjectIdentifier("1.3.6.1.4.1.11129.2.4.2"), b"\4\2\0\0")), ""
+    yield root(timestamps=TIMESTAMPS), ""
     subject = name((COMMON_NAME, "S"), (ORGANIZATION, "o"), (UNIT, "u"), (COUNTRY, "NL"))
     yield root(subject=subject), "root_organizational_unit_present"
     yield authority(subject=subject), "subordinate_organizational_unit_present"
@@ -532,16 +542,70 @@ def responder_rules():
     yield responder(no_check=None, key_id=None, purposes=key_purposes(CLIENT_AUTH)), ""
 
 
+def precertificate_rules():
+    yield server(poison=x509.PrecertPoison(), timestamps=TIMESTAMPS), "precertificate_with_timestamps"
+    yield server(poison=x509.PrecertPoison()), ""
+    yield server(timestamps=TIMESTAMPS), ""
+    yield signer(purposes=key_purposes(PRECERTIFICATE_SIGNING, CLIENT_AUTH)), "precertificate_signer_purpose_other"
+    yield signer(purposes=key_purposes(SERVER_AUTH, PRECERTIFICATE_SIGNING)), "precertificate_signer_purpose_other ca_extended_key_usage_forbidden"
+    yield signer(marked=["purposes"]), "precertificate_signer_purposes_critical"
+    yield signer(unmarked=["usage"]), "precertificate_signer_key_usage_not_critical"
+    yield signer(policies=None), "precertificate_signer_without_policies"
+    yield signer(points=None), "precertificate_signer_without_crl_points"
+    # a leaf with that purpose signs none
+    yield signer(constraints=None, policies=None, points=None), ""
+
+
+def constrained_rules():
+    mail, every = ExtendedKeyUsageOID.EMAIL_PROTECTION, ExtendedKeyUsageOID.ANY_EXTENDED_KEY_USAGE
+    for purposes, rules in (
+        ((mail,), ""),
+        ((mail, every), "constrained_purpose_forbidden"),
+        ((every,), "constrained_purpose_forbidden"),
+        ((CLIENT_AUTH, OCSP_SIGNING), "constrained_purpose_forbidden"),
+        ((PRECERTIFICATE_SIGNING, every), "precertificate_signer_purpose_other"),
+        ((SERVER_AUTH, every), "ca_extended_key_usage_forbidden"),
+    ):
+        yield authority(purposes=key_purposes(*purposes)), rules
+    yield responder(purposes=key_purposes(every, OCSP_SIGNING)), "responder_purpose_other"
+    host, directory = x509.DNSName("example.com"), x509.DirectoryName(AUTHORITY)
+    some, other = (x509.IPAddress(ipaddress.ip_network(it)) for it in ("9.0.0.0/8", "2a00::/16"))
+    every_4, every_6 = (x509.IPAddress(ipaddress.ip_network(it)) for it in ("0.0.0.0/0", "::/0"))
+    addresses, directories = "constrained_without_addresses", "constrained_without_directory_names"
+    for permitted, excluded, rules in (
+        ([host, some, directory], None, ""),
+        ([directory, other, host], None, ""),
+        ([host, directory], [every_4, every_6], ""),
+        ([host, directory], [host, every_6, directory, every_4], ""),
+        ([host, directory], [every_4], addresses),
+        ([host, directory], [every_6], addresses),
+        ([host, directory], [some, other], addresses),
+        ([host, directory], None, addresses),
+        ([host, some], [directory], directories),
+        ([host], None, f"{addresses} {directories}"),
+        ([directory], None, ""),
+        (None, [host], ""),
+    ):
+        yield authority(permitted=x509.NameConstraints(permitted, excluded), marked=["permitted"]), rules
+    yield root(permitted=x509.NameConstraints([host], None)), "root_extension_other"
+    yield server(permitted=x509.NameConstraints([host], None)), ""
+
+
 GROUPS = (
     *(clean_ones, field_rules, key_rules, validity_rules, host_rules, name_rules, subject_rules, usage_rules, policy_rules),
-    *(authority_rules, root_rules, subordinate_rules, responder_rules),
+    *(authority_rules, root_rules, subordinate_rules, responder_rules, precertificate_rules, constrained_rules),
 )
 
 
 def rules_of_page():
-    """Of each rule of docs/WEB_RULES.md, in their order, its severity, its section, and the day from which on it is in force, or nothing."""
-    rows = re.findall(r"^- `(\w+)`: .* \(([0-9.]+)(?:, (warning))?(?:, ([0-9-]+))?\)\.(?: `.*)?$", PAGE.read_text(encoding="utf-8"), re.M)
-    return {rule: (severity or "error", section, day) for rule, section, severity, day in rows}
+    """Of each rule of docs/WEB_RULES.md, in their order, its severity, its section, and the days from which on it is in force and no longer is, or nothing."""
+    days = "(?:, ([0-9-]+))?(?:, until ([0-9-]+))?"
+    rows = re.findall(rf"^- `(\w+)`: .* \(([0-9.]+)(?:, (warning))?{days}\)\.(?: `.*)?$", PAGE.read_text(encoding="utf-8"), re.M)
+    return {rule: (severity or "error", section, *days) for rule, section, severity, *days in rows}
+
+
+def is_in_force(moment, since, until):
+    return (not since or f"{since}T00:00:00Z" <= moment) and (not until or moment < f"{until}T00:00:00Z")
 
 
 def second_before(day):
@@ -556,7 +620,7 @@ def not_before_of(data):
 
 def told(rules, moment, page):
     """What is printed of a certificate that breaks these rules, and the status: a line for each rule that is in force."""
-    found = [(rule, severity, section) for rule, (severity, section, day) in page.items() if rule in rules and (not day or f"{day}T00:00:00Z" <= moment)]
+    found = [(rule, severity, section) for rule, (severity, section, *days) in page.items() if rule in rules and is_in_force(moment, *days)]
     text = "".join(f"certificate: {severity} {rule} (TLS BR {section})\n" for rule, severity, section in found)
     return text, int(any(severity == "error" for _, severity, _ in found))
 
@@ -595,12 +659,18 @@ def seen_of():
     yield root(days=9132, lasts=0 * SECOND), "root_validity_over_9132_days", "tbsCertificate.validity", "2024-01-01T00:00:00Z/2049-01-01T00:00:00Z"
     yield authority(marked=["purposes"]), "subordinate_extended_key_usage_critical", "tbsCertificate.extensions.extKeyUsage", "300a06082b06010505070301"
     yield responder(marked=["no_check"]), "ocsp_no_check_critical", "tbsCertificate.extensions.ocspNoCheck", "0500"
+    listed = "tbsCertificate.extensions.signedCertificateTimestampList"
+    yield server(poison=x509.PrecertPoison(), timestamps=TIMESTAMPS), "precertificate_with_timestamps", listed, "04020000"
+    any_purpose = key_purposes(ExtendedKeyUsageOID.ANY_EXTENDED_KEY_USAGE)
+    yield authority(purposes=any_purpose), "constrained_purpose_forbidden", "tbsCertificate.extensions.extKeyUsage", "30060604551d2500"
+    hosts_alone = x509.NameConstraints([x509.DNSName("a"), x509.DirectoryName(x509.Name([]))], None)
+    yield authority(permitted=hosts_alone), "constrained_without_addresses", "tbsCertificate.extensions.nameConstraints", "300da00b30038201613004a4023000"
 
 
 def seen_runs(page):
     """Runs with `--json`."""
     for data, rule, place, seen in seen_of():
-        severity, section, _ = page[rule]
+        severity, section, *_ = page[rule]
         members = {"file": "standard input", "object": "certificate", "rule": rule, "severity": severity, "section": f"TLS BR {section}", "place": place, "seen": seen}
         yield f"JSON of {rule}", ["--web", NOW, "--json"], data, json.dumps(members) + "\n", int(severity == "error")
     yield "JSON of a certificate that breaks no rule", ["--json", "--web", NOW], server(), "", 0
@@ -616,7 +686,7 @@ def web_runs():
         for at, (data, listed) in enumerate(group()):
             rules = listed.split()
             broken.update(rules)
-            days = sorted({page[rule][2] for rule in rules} - {""})
+            days = sorted({day for rule in rules for day in page[rule][2:]} - {""})
             for moment in [NOW, *(f"{day}T00:00:00Z" for day in days), *map(second_before, days)]:
                 yield f"{group.__name__} {at} at {moment}", ["--web", moment], data, *told(rules, moment, page)
             yield f"{group.__name__} {at} at its notBefore", ["--web", "not-before"], data, *told(rules, not_before_of(data), page)

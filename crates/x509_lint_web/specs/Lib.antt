@@ -19,6 +19,8 @@ pub mod Authority
 pub mod Root
 pub mod Subordinate
 pub mod Responder
+pub mod Precertificate
+pub mod Constrained
 pub mod Seen
 pub mod Rules
 pub mod Report

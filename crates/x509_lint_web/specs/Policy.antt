@@ -10,7 +10,7 @@ use Rattle.x509_lint.specs.Text.{id_at}
 use Rattle.x509_lint.specs.Words.{Certificate, extensions_of, has, has_critical, passes}
 use Rattle.x509_lint_web.specs.Words.{has_attribute, has_policy, is_http_name}
 use Rattle.x509_name.specs.declared.attr.type_and_value.AttributeTypeAndValue.{AttributeTypeAndValue}
-use Rattle.x509_lint_web.specs.Sentence.{Sentence, from_day, must, should}
+use Rattle.x509_lint_web.specs.Sentence.{Sentence, from_day, must, must_until, should}
 use Rattle.x509_lint_web.specs.Validity.{is_longer}
 use Rattle.x509_lint_web.specs.declared.values.WebValues.{WebValues}
 use Rattle.x509_lint_web.specs.declared.rule.policy.WebPolicyRule.{WebPolicyRule}
@@ -83,6 +83,7 @@ policy_rules =
     ∷ rules.OrganizationValidatedWithoutOrganization
     ∷ rules.OrganizationValidatedWithoutCountry
     ∷ rules.AuthorityInfoAccessAbsent
+    ∷ rules.OcspAccessAbsent
     ∷ rules.AccessMethodOther
     ∷ rules.AccessLocationNotHttp
     ∷ rules.RevocationAbsentOver10Days
@@ -119,6 +120,9 @@ policy_sentence rules.OrganizationValidatedWithoutCountry =
 policy_sentence rules.AuthorityInfoAccessAbsent =
     must (codes "authority_info_access_absent") (codes "7.1.2.7.7") (from_day 2012 7 1) (codes "tbsCertificate.extensions.authorityInfoAccess")
     (λ c v. not (has (id_pkix 1 1) (extensions_of c)))
+policy_sentence rules.OcspAccessAbsent =
+    must_until (codes "ocsp_access_absent") (codes "7.1.2.7.7") (from_day 2012 7 1) (from_day 2024 3 15) (codes "tbsCertificate.extensions.authorityInfoAccess")
+    (λ c v. passes (λ a. not (list_any is_ocsp a.0)) v.authority_info_access)
 policy_sentence rules.AccessMethodOther =
     must (codes "access_method_other") (codes "7.1.2.7.7") (from_day 2023 9 15) (codes "tbsCertificate.extensions.authorityInfoAccess")
     (λ c v. passes (λ a. list_any has_other_method a.0) v.authority_info_access)

@@ -3,10 +3,12 @@ use Rattle.std.specs.Prelude.{◌≡◌, ◌&&◌, Bool, List, ◌++◌, map, fi
 use Rattle.x509_base.specs.CivilTime.{CivilTime}
 use Rattle.x509_lint.specs.Words.{Certificate}
 use Rattle.x509_lint_web.specs.Authority as authority
+use Rattle.x509_lint_web.specs.Constrained as constrained
 use Rattle.x509_lint_web.specs.Field as field
 use Rattle.x509_lint_web.specs.Key as key
 use Rattle.x509_lint_web.specs.Name as name
 use Rattle.x509_lint_web.specs.Policy as policy
+use Rattle.x509_lint_web.specs.Precertificate as precertificate
 use Rattle.x509_lint_web.specs.Responder as responder
 use Rattle.x509_lint_web.specs.Root as root
 use Rattle.x509_lint_web.specs.Subject as subject
@@ -36,17 +38,20 @@ web_sentence (rules.Authority rule) = of_those is_above_servers (authority.autho
 web_sentence (rules.Root rule) = of_those is_root (root.root_sentence rule)
 web_sentence (rules.Subordinate rule) = of_those is_subordinate (subordinate.subordinate_sentence rule)
 web_sentence (rules.Responder rule) = of_those is_responder (responder.responder_sentence rule)
+web_sentence (rules.Precertificate rule) = precertificate.precertificate_sentence rule
+web_sentence (rules.Constrained rule) = constrained.constrained_sentence rule
 
 abbrev pub web_rules : List WebRule
 web_rules =
     map rules.Field field.field_rules ++ map rules.Key key.key_rules ++ map rules.Validity validity.validity_rules ++ map rules.Name name.name_rules
     ++ map rules.Subject subject.subject_rules ++ map rules.Usage usage.usage_rules ++ map rules.Policy policy.policy_rules
     ++ map rules.Authority authority.authority_rules ++ map rules.Root root.root_rules ++ map rules.Subordinate subordinate.subordinate_rules
-    ++ map rules.Responder responder.responder_rules
+    ++ map rules.Responder responder.responder_rules ++ map rules.Precertificate precertificate.precertificate_rules
+    ++ map rules.Constrained constrained.constrained_rules
 
 -- the rule is in force at the moment, and the certificate, of which these are the values, breaks it
 abbrev pub is_found : CivilTime → Certificate → WebValues → WebRule → Bool
-is_found moment c v rule = is_in_force (web_sentence rule).since moment && (web_sentence rule).breaks c v
+is_found moment c v rule = is_in_force (web_sentence rule) moment && (web_sentence rule).breaks c v
 
 -- the findings are those of the rules, in their order
 abbrev pub AreWebFindings : CivilTime → Certificate → List WebRule → Type 0

@@ -13,6 +13,7 @@ use Rattle.x509_lint.specs.OtherTypes.{ocsp_no_check}
 use Rattle.x509_lint.specs.Seen.{shortened, value_seen}
 use Rattle.x509_lint.specs.Words.{Certificate, extensions_of}
 use Rattle.x509_lint_web.specs.Name.{has_fault}
+use Rattle.x509_lint_web.specs.Precertificate.{timestamp_list}
 use Rattle.x509_lint_web.specs.Words.{key_of}
 use Rattle.x509_lint_web.specs.declared.names.NameFault.{NameFault}
 use Rattle.x509_lint_web.specs.declared.names.NameFault.TheVariants as faults
@@ -20,6 +21,8 @@ use Rattle.x509_lint_web.specs.declared.rule.WebRule.{WebRule}
 use Rattle.x509_lint_web.specs.declared.rule.WebRule.TheVariants as rules
 use Rattle.x509_lint_web.specs.declared.rule.authority.WebAuthorityRule.{WebAuthorityRule}
 use Rattle.x509_lint_web.specs.declared.rule.authority.WebAuthorityRule.TheVariants as authority
+use Rattle.x509_lint_web.specs.declared.rule.constrained.WebConstrainedRule.{WebConstrainedRule}
+use Rattle.x509_lint_web.specs.declared.rule.constrained.WebConstrainedRule.TheVariants as constrained
 use Rattle.x509_lint_web.specs.declared.rule.field.WebFieldRule.{WebFieldRule}
 use Rattle.x509_lint_web.specs.declared.rule.field.WebFieldRule.TheVariants as field
 use Rattle.x509_lint_web.specs.declared.rule.key.WebKeyRule.{WebKeyRule}
@@ -28,6 +31,8 @@ use Rattle.x509_lint_web.specs.declared.rule.name.WebNameRule.{WebNameRule}
 use Rattle.x509_lint_web.specs.declared.rule.name.WebNameRule.TheVariants as name
 use Rattle.x509_lint_web.specs.declared.rule.policy.WebPolicyRule.{WebPolicyRule}
 use Rattle.x509_lint_web.specs.declared.rule.policy.WebPolicyRule.TheVariants as policy
+use Rattle.x509_lint_web.specs.declared.rule.precertificate.WebPrecertificateRule.{WebPrecertificateRule}
+use Rattle.x509_lint_web.specs.declared.rule.precertificate.WebPrecertificateRule.TheVariants as precertificate
 use Rattle.x509_lint_web.specs.declared.rule.responder.WebResponderRule.{WebResponderRule}
 use Rattle.x509_lint_web.specs.declared.rule.responder.WebResponderRule.TheVariants as responder
 use Rattle.x509_lint_web.specs.declared.rule.root.WebRootRule.{WebRootRule}
@@ -89,6 +94,7 @@ policy_part policy.DomainValidatedAttribute = Subject
 policy_part policy.OrganizationValidatedWithoutOrganization = Subject
 policy_part policy.OrganizationValidatedWithoutCountry = Subject
 policy_part policy.AuthorityInfoAccessAbsent = Extension (id_pkix 1 1)
+policy_part policy.OcspAccessAbsent = Extension (id_pkix 1 1)
 policy_part policy.AccessMethodOther = Extension (id_pkix 1 1)
 policy_part policy.AccessLocationNotHttp = Extension (id_pkix 1 1)
 policy_part policy.RevocationAbsentOver10Days = Extensions
@@ -137,6 +143,17 @@ responder_part responder.ResponderPoliciesPresent = Extension (id_ce 32)
 responder_part responder.ResponderAccessPresent = Extension (id_pkix 1 1)
 responder_part other = Extension (id_ce 15)
 
+abbrev pub precertificate_part : WebPrecertificateRule → Part
+precertificate_part precertificate.PrecertificateWithTimestamps = Extension timestamp_list
+precertificate_part precertificate.PrecertificateSignerKeyUsageNotCritical = Extension (id_ce 15)
+precertificate_part precertificate.PrecertificateSignerWithoutPolicies = Extension (id_ce 32)
+precertificate_part precertificate.PrecertificateSignerWithoutCrlPoints = Extension (id_ce 31)
+precertificate_part other = Extension (id_ce 37)
+
+abbrev pub constrained_part : WebConstrainedRule → Part
+constrained_part constrained.ConstrainedPurposeForbidden = Extension (id_ce 37)
+constrained_part other = Extension (id_ce 30)
+
 abbrev pub part_of : WebRule → Part
 part_of (rules.Field rule) = field_part rule
 part_of (rules.Key rule) = key_part rule
@@ -149,6 +166,8 @@ part_of (rules.Authority rule) = authority_part rule
 part_of (rules.Root rule) = root_part rule
 part_of (rules.Subordinate rule) = subordinate_part rule
 part_of (rules.Responder rule) = responder_part rule
+part_of (rules.Precertificate rule) = precertificate_part rule
+part_of (rules.Constrained rule) = constrained_part rule
 
 -- ---- what is seen of a part
 

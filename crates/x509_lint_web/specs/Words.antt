@@ -14,6 +14,7 @@ use Rattle.x509_ext.specs.DistributionPoint.{crl_distribution_points}
 use Rattle.x509_ext.specs.ExtendedKeyUsage.{extended_key_usage}
 use Rattle.x509_ext.specs.Identifiers.{id_ce, id_pkix}
 use Rattle.x509_ext.specs.KeyUsage.{key_usage}
+use Rattle.x509_ext.specs.NameConstraints.{name_constraints}
 use Rattle.x509_ext.specs.SubjectKeyIdentifier.{subject_key_identifier}
 use Rattle.x509_ext.specs.declared.extension.Extension.{Extension}
 use Rattle.x509_ext.specs.declared.pkix.authority_key_identifier.AuthorityKeyIdentifier.{AuthorityKeyIdentifier}
@@ -52,6 +53,7 @@ AreValuesOf extensions key v =
     × IsValue crl_distribution_points (id_ce 31) extensions v.crl_distribution_points
     × IsValue authority_info_access_syntax (id_pkix 1 1) extensions v.authority_info_access
     × IsValue subject_key_identifier (id_ce 14) extensions v.subject_key_identifier
+    × IsValue name_constraints (id_ce 30) extensions v.name_constraints
     × IsSpelled numbers key.subject_public_key.octets v.rsa_numbers
 
 -- ---- names and texts

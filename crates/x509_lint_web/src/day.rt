@@ -1,7 +1,7 @@
-//! A day from which on a rule is in force.
+//! The days from which on rules are in force, or no longer are.
 
 ghost use Rattle.std.specs.Prelude.{◌≡◌};
-ghost use Rattle.x509_lint_web.specs.Sentence.{is_reached};
+ghost use Rattle.x509_lint_web.specs.Sentence.{is_begun, is_over, is_reached};
 
 use x509_base::DateTime;
 
@@ -27,5 +27,25 @@ impl Day {
             || (self.year == moment.year()
                 && (self.month < moment.month()
                     || (self.month == moment.month() && self.day <= moment.day())))
+    }
+}
+
+/// Whether a rule that is in force from that day on has begun to be so at the moment.
+pub(crate) fn is_begun(since: Option<Day>, moment: DateTime) -> bool
+    ensures { result ≡ is_begun since moment }
+{
+    match since {
+        Some(day) => day.is_reached(moment),
+        None => true,
+    }
+}
+
+/// Whether a rule that is in force up to that day has ceased to be so at the moment.
+pub(crate) fn is_over(until: Option<Day>, moment: DateTime) -> bool
+    ensures { result ≡ is_over until moment }
+{
+    match until {
+        Some(day) => day.is_reached(moment),
+        None => false,
     }
 }

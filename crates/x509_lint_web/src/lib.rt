@@ -7,6 +7,7 @@
 mod addresses;
 mod algorithms;
 mod common_names;
+mod constraints;
 mod countries;
 mod day;
 mod entry;
@@ -19,6 +20,7 @@ mod numbers;
 mod orders;
 mod places;
 mod policies;
+mod precertificates;
 mod report;
 mod responders;
 mod roots;

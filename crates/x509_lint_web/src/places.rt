@@ -125,7 +125,7 @@ fn is_ocsp_among(descriptions: &[AccessDescription]) -> bool
 }
 
 /// Whether the descriptions are read, and none is for OCSP.
-fn are_without_ocsp(descriptions: &Option<AuthorityInfoAccessSyntax>) -> bool
+pub(crate) fn are_without_ocsp(descriptions: &Option<AuthorityInfoAccessSyntax>) -> bool
     ensures { result ≡ passes (λ a. not (list_any policy.is_ocsp a.0)) descriptions.now }
 {
     passes!(descriptions, descriptions => !is_ocsp_among(descriptions.0.as_slice()))

@@ -6,7 +6,7 @@ ghost use Rattle.x509_lint_web.specs.Rules.{web_sentence};
 ghost use Rattle.x509_lint_web.specs.Seen.{part_of};
 ghost use Rattle.x509_lint_web.specs.Sentence.{IsTold, is_in_force};
 
-use crate::day::Day;
+use crate::day::{Day, is_begun, is_over};
 use crate::entry::WebEntry;
 use crate::scope::{is_above_servers, is_responder, is_root, is_server, is_subordinate};
 use crate::seen::Part;
@@ -17,10 +17,12 @@ use x509_cert::certificate::CertificateInner;
 use x509_lint::{Entry, Severity};
 
 mod authority;
+mod constrained;
 mod field;
 mod key;
 mod name;
 mod policy;
+mod precertificate;
 mod responder;
 mod root;
 mod subject;
@@ -29,10 +31,12 @@ mod usage;
 mod validity;
 
 pub use authority::WebAuthorityRule;
+pub use constrained::WebConstrainedRule;
 pub use field::WebFieldRule;
 pub use key::WebKeyRule;
 pub use name::WebNameRule;
 pub use policy::WebPolicyRule;
+pub use precertificate::WebPrecertificateRule;
 pub use responder::WebResponderRule;
 pub use root::WebRootRule;
 pub use subject::WebSubjectRule;
@@ -76,10 +80,16 @@ pub enum WebRule {
 
     /// On a certificate of an OCSP responder.
     Responder(WebResponderRule),
+
+    /// On a precertificate, and on a certificate of an authority that signs precertificates.
+    Precertificate(WebPrecertificateRule),
+
+    /// On a certificate of an authority that is constrained by its EKU or by name constraints.
+    Constrained(WebConstrainedRule),
 }
 
 /// All rules, in their order.
-pub(crate) const WEB_RULES: [WebRule; 132] = [
+pub(crate) const WEB_RULES: [WebRule; 142] = [
     WebRule::Field(WebFieldRule::VersionNotV3),
     WebRule::Field(WebFieldRule::SignatureOfSha1),
     WebRule::Field(WebFieldRule::SignatureAlgorithmOther),
@@ -165,6 +175,7 @@ pub(crate) const WEB_RULES: [WebRule; 132] = [
     WebRule::Policy(WebPolicyRule::OrganizationValidatedWithoutOrganization),
     WebRule::Policy(WebPolicyRule::OrganizationValidatedWithoutCountry),
     WebRule::Policy(WebPolicyRule::AuthorityInfoAccessAbsent),
+    WebRule::Policy(WebPolicyRule::OcspAccessAbsent),
     WebRule::Policy(WebPolicyRule::AccessMethodOther),
     WebRule::Policy(WebPolicyRule::AccessLocationNotHttp),
     WebRule::Policy(WebPolicyRule::RevocationAbsentOver10Days),
@@ -212,10 +223,19 @@ pub(crate) const WEB_RULES: [WebRule; 132] = [
     WebRule::Responder(WebResponderRule::ResponderCrlPointsPresent),
     WebRule::Responder(WebResponderRule::ResponderPoliciesPresent),
     WebRule::Responder(WebResponderRule::ResponderAccessPresent),
+    WebRule::Precertificate(WebPrecertificateRule::PrecertificateWithTimestamps),
+    WebRule::Precertificate(WebPrecertificateRule::PrecertificateSignerPurposeOther),
+    WebRule::Precertificate(WebPrecertificateRule::PrecertificateSignerPurposesCritical),
+    WebRule::Precertificate(WebPrecertificateRule::PrecertificateSignerKeyUsageNotCritical),
+    WebRule::Precertificate(WebPrecertificateRule::PrecertificateSignerWithoutPolicies),
+    WebRule::Precertificate(WebPrecertificateRule::PrecertificateSignerWithoutCrlPoints),
+    WebRule::Constrained(WebConstrainedRule::ConstrainedPurposeForbidden),
+    WebRule::Constrained(WebConstrainedRule::ConstrainedWithoutAddresses),
+    WebRule::Constrained(WebConstrainedRule::ConstrainedWithoutDirectoryNames),
 ];
 
 impl WebRule {
-    /// How bad it is to break the rule, its name, its section, its place, and since when it is in force.
+    /// How bad it is to break the rule, its name, its section, its place, and since when and until when it is in force.
     pub fn entry(self) -> WebEntry
         ensures { IsTold result (web_sentence self) }
     {
@@ -231,6 +251,8 @@ impl WebRule {
             WebRule::Root(rule) => rule.entry(),
             WebRule::Subordinate(rule) => rule.entry(),
             WebRule::Responder(rule) => rule.entry(),
+            WebRule::Precertificate(rule) => rule.entry(),
+            WebRule::Constrained(rule) => rule.entry(),
         }
     }
 
@@ -269,14 +291,18 @@ impl WebRule {
         self.entry().since
     }
 
+    /// The day from which on the rule is no longer in force; `None` where it is in force today.
+    pub fn until(self) -> Option<Day>
+        ensures { result ≡ (web_sentence self).until }
+    {
+        self.entry().until
+    }
+
     /// Whether the rule is in force at the moment.
     pub fn is_in_force(self, moment: DateTime) -> bool
-        ensures { result ≡ is_in_force (web_sentence self).since moment }
+        ensures { result ≡ is_in_force (web_sentence self) moment }
     {
-        match self.since() {
-            Some(day) => day.is_reached(moment),
-            None => true,
-        }
+        is_begun(self.since(), moment) && !is_over(self.until(), moment)
     }
 
     /// Of which part of a certificate the rule speaks.
@@ -295,6 +321,8 @@ impl WebRule {
             WebRule::Root(rule) => rule.part(),
             WebRule::Subordinate(rule) => rule.part(),
             WebRule::Responder(rule) => rule.part(),
+            WebRule::Precertificate(rule) => rule.part(),
+            WebRule::Constrained(rule) => rule.part(),
         }
     }
 
@@ -323,6 +351,8 @@ impl WebRule {
                 && rule.is_broken(certificate, values),
             WebRule::Responder(rule) => is_responder(certificate, values)
                 && rule.is_broken(certificate, values),
+            WebRule::Precertificate(rule) => rule.is_broken(certificate, values),
+            WebRule::Constrained(rule) => rule.is_broken(certificate, values),
         }
     }
 }

@@ -1,7 +1,7 @@
 //! Of whom the rules speak.
 
 ghost use Rattle.std.specs.List.{list_any};
-ghost use Rattle.std.specs.Prelude.{◌≡◌, bytes_eq};
+ghost use Rattle.std.specs.Prelude.{◌≡◌, bytes_eq, not};
 ghost use Rattle.x509_lint.specs.Key.{is_self_issued};
 ghost use Rattle.x509_lint.specs.Words.{passes};
 ghost use Rattle.x509_lint_web.specs.Words as words;
@@ -49,10 +49,23 @@ fn is_among(oid: ObjectIdentifier, purposes: &[ObjectIdentifier]) -> bool
 }
 
 /// Whether the EKU is read, and has the purpose.
-fn has_purpose(oid: ObjectIdentifier, usage: &Option<ExtendedKeyUsage>) -> bool
+pub(crate) fn has_purpose(oid: ObjectIdentifier, usage: &Option<ExtendedKeyUsage>) -> bool
     ensures { result ≡ passes (λ u. list_any (λ purpose. bytes_eq purpose oid) u.0) usage.now }
 {
     passes!(usage, usage => is_among(oid, usage.0.as_slice()))
+}
+
+fn is_other_among(oid: ObjectIdentifier, purposes: &[ObjectIdentifier]) -> bool
+    ensures { result ≡ list_any (λ purpose. not (bytes_eq purpose oid)) purposes.now }
+{
+    purposes.iter().any(|purpose| *purpose != oid)
+}
+
+/// Whether the EKU is read, and has another purpose.
+pub(crate) fn has_other_purpose(oid: ObjectIdentifier, usage: &Option<ExtendedKeyUsage>) -> bool
+    ensures { result ≡ passes (λ u. list_any (λ purpose. not (bytes_eq purpose oid)) u.0) usage.now }
+{
+    passes!(usage, usage => is_other_among(oid, usage.0.as_slice()))
 }
 
 fn may_serve(certificate: &CertificateInner<Raw>, values: &WebValues) -> bool

@@ -23,10 +23,10 @@ const EMAIL_PROTECTION: ObjectIdentifier = oid!(0x2B, 0x06, 0x01, 0x05, 0x05, 0x
 const TIME_STAMPING: ObjectIdentifier = oid!(0x2B, 0x06, 0x01, 0x05, 0x05, 0x07, 3, 8);
 
 /// anyExtendedKeyUsage, 2.5.29.37.0.
-const ANY_EXTENDED_KEY_USAGE: ObjectIdentifier = oid!(0x55, 0x1D, 37, 0);
+pub(crate) const ANY_EXTENDED_KEY_USAGE: ObjectIdentifier = oid!(0x55, 0x1D, 37, 0);
 
 /// That of certificates that sign precertificates, 1.3.6.1.4.1.11129.2.4.4 (RFC 6962 3.1).
-const PRECERTIFICATE_SIGNING: ObjectIdentifier = oid!(
+pub(crate) const PRECERTIFICATE_SIGNING: ObjectIdentifier = oid!(
     0x2B, 0x06, 0x01, 0x04, 0x01, 0xD6, 0x79, 0x02, 0x04, 0x04
 );
 

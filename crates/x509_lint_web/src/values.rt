@@ -14,7 +14,7 @@ use x509_der::{Decode, Error, ErrorKind, SequenceOf};
 use x509_ext::Extension;
 use x509_ext::pkix::{
     AuthorityInfoAccessSyntax, AuthorityKeyIdentifier, CertificatePolicies, CrlDistributionPoints,
-    ExtendedKeyUsage, KeyUsage, SubjectAltName, SubjectKeyIdentifier,
+    ExtendedKeyUsage, KeyUsage, NameConstraints, SubjectAltName, SubjectKeyIdentifier,
 };
 use x509_lint::AnyBasicConstraints;
 use x509_lint::extensions::{extensions_of, payload};
@@ -32,6 +32,7 @@ pub(crate) struct WebValues {
     pub(crate) crl_distribution_points: Option<CrlDistributionPoints>,
     pub(crate) authority_info_access: Option<AuthorityInfoAccessSyntax>,
     pub(crate) subject_key_identifier: Option<SubjectKeyIdentifier>,
+    pub(crate) name_constraints: Option<NameConstraints>,
 
     /// The numbers of the key, where its bits are a SEQUENCE OF INTEGER.
     pub(crate) rsa_numbers: Option<SequenceOf<Uint>>,
@@ -58,6 +59,7 @@ impl Drop for WebValues {
             crl_distribution_points: _,
             authority_info_access: _,
             subject_key_identifier: _,
+            name_constraints: _,
             rsa_numbers: _,
             has_stray_name: _,
             has_rewritten_name: _,
@@ -109,6 +111,7 @@ fn values_of(
         crl_distribution_points: payload(alloc, extensions)?,
         authority_info_access: payload(alloc, extensions)?,
         subject_key_identifier: payload(alloc, extensions)?,
+        name_constraints: payload(alloc, extensions)?,
         rsa_numbers: spelled(alloc, key.subject_public_key.raw_bytes())?,
         has_stray_name,
         has_rewritten_name,

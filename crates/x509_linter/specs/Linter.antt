@@ -197,9 +197,9 @@ abbrev pub help : List ℕ
 help =
     codes "usage: x509_linter [certificate|crl|csr|anchor] [-v] [--json] [CHOICE..] [FILE..]\n       x509_linter --web [--rfc] [-v] [--json] [CHOICE..] MOMENT [FILE..]\n\n"
     ++ codes "Tells which rules certificates, CRLs (RFC 5280), CSRs (RFC 2986, 2985) and trust anchors\n"
-    ++ codes "(RFC 5914) break, in DER, PEM or hex: a line for each, with its section. Of PEM each object is\n"
-    ++ codes "told of by itself. A FILE that is a directory stands for the files in it. Without a FILE, and\n"
-    ++ codes "where FILE is -, it reads standard input.\n\n"
+    ++ codes "(RFC 5914) break, in DER, PEM or hex: a line for each, with its section. Of PEM, PKCS #7 or CMS\n"
+    ++ codes "each object is told of by itself. A FILE that is a directory stands for the files in it. Without\n"
+    ++ codes "a FILE, and where FILE is -, it reads standard input.\n\n"
     ++ codes "  certificate, crl, csr, anchor  what each input is; without such a word it is tried as each\n"
     ++ codes "                                 of them, in this order\n"
     ++ codes "  --web                          tells which rules of the Baseline Requirements of the\n"

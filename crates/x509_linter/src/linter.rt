@@ -28,9 +28,9 @@ const HELP: &[u8] =
        x509_linter --web [--rfc] [-v] [--json] [CHOICE..] MOMENT [FILE..]
 
 Tells which rules certificates, CRLs (RFC 5280), CSRs (RFC 2986, 2985) and trust anchors
-(RFC 5914) break, in DER, PEM or hex: a line for each, with its section. Of PEM each object is
-told of by itself. A FILE that is a directory stands for the files in it. Without a FILE, and
-where FILE is -, it reads standard input.
+(RFC 5914) break, in DER, PEM or hex: a line for each, with its section. Of PEM, PKCS #7 or CMS
+each object is told of by itself. A FILE that is a directory stands for the files in it. Without
+a FILE, and where FILE is -, it reads standard input.
 
   certificate, crl, csr, anchor  what each input is; without such a word it is tried as each
                                  of them, in this order

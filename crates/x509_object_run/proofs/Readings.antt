@@ -1,22 +1,26 @@
 -- Inputs that are read piece by piece.
 use Rattle.std.proofs.Common.{Result, Ok, Err, OnErr, OnOk, ◌≡◌, ◌≢◌, ◌<◌, ◌≤◌, ◌+◌, ◌-◌, ◌^◌, ◌⊎◌, inl, inr, ℕ, Bool, true, false, max, min, List, [], ◌∷◌, ◌++◌, length, map, take, drop, get_or, Option, Some, None, refl, sym, ap, ◌∙◌, subst, arith, append_assoc, append-nil, length-append, length-drop, if◌then◌else◌}
-use Rattle.std.specs.List.{All, after_first, before_first, position, position_or_len}
+use Rattle.std.specs.List.{All, flat_map, after_first, before_first, position, position_or_len}
 use Rattle.std.specs.Option.{option_to_list}
 use Rattle.std.specs.Result.{is_ok}
-use Rattle.std.proofs.lemmas.Grind.{common_steps}
+use Rattle.std.proofs.lemmas.Grind.{common_steps, flat_map-append}
 use Rattle.std.proofs.lemmas.List.{map_push, take_all}
 use Rattle.std.proofs.lemmas.List.Elements.{All-append}
 use Rattle.std.proofs.lemmas.List.Sums.{fails_before_first, passes_at_first, split_at_first}
 use Rattle.std.proofs.lemmas.List.Splits.{slice_split_none, slice_split_at}
-use Rattle.x509_object_run.specs.Object.{Item, Steps, Subject, item_of, text_bytes}
-use Rattle.x509_object_run.specs.Program.{AreCutShort, AreItemsDone, AreNumberedDone, Gave, IsOver, IsSourceDone, IsStopped, IsCalledDone, IsItemDone, IsNumberedDone, Outputs, Writes, input_items, items_from, last_items, number_of}
-use Rattle.x509_object_run.specs.Reading.{AreTold, IsFedUp, IsFinished, IsFrontTold, IsHeld, IsReason, IsSplit, IsUnderway, IsWithin, pending_of}
+use Rattle.x509_der.specs.Form.{whole_reading}
+use Rattle.x509_object_run.specs.Object.{Item, Steps, Subject, item_of, objects_of_item, text_bytes}
+use Rattle.x509_object_run.specs.Program.{AreCutShort, AreItemsDone, AreNumberedDone, Gave, IsOver, IsSourceDone, IsStopped, IsCalledDone, IsItemDone, IsNumberedDone, Outputs, Writes, input_items, items_from, items_of, last_items, number_of}
+use Rattle.x509_object_run.specs.Reading.{AreTallied, AreTold, IsFedUp, IsFinished, IsFrontTold, IsHeld, IsReason, IsSplit, IsUnderway, IsWithin, pending_of}
 use Rattle.x509_object_run.specs.declared.fault.Fault.{Fault}
 use Rattle.x509_object_run.specs.declared.fault.Fault.TheVariants.{Unopened, Unreadable, TooLong, Unarmoured, NoObject, Unwritten, Memory}
+use Rattle.x509_object_run.specs.Objects.{AreLeft, IsNext}
+use Rattle.x509_object_run.specs.declared.objects.Objects.{Objects}
 use Rattle.x509_object_run.specs.declared.lines.Held.{Held}
 use Rattle.x509_tool_run.specs.Input.{input_limit}
 use Rattle.x509_object_run.specs.declared.heading.Headed.{Headed}
 use Rattle.x509_object_run.proofs.InputsShown.{numbered_further}
+use Rattle.x509_object_run.specs.SignedData.{content_info, else_whole, found_in}
 use Rattle.x509_tool_run.specs.Pem.{ends_line, label_of, lines_of}
 use Rattle.x509_tool_run.specs.Scan.{Mark, Text, after, after_line, begun_or, closed, ended, ended_by, is_border, is_pem, mark_from, mark_of, start, texts_from}
 use Rattle.x509_tool_run.specs.declared.scan.Stage.{Stage}
@@ -53,13 +57,19 @@ texts_further m (other ∷ lines) line =
 -- that ends no text
 pub items_none : (lines : List (List ℕ)) (line : List ℕ) → ended (mark_from start lines) line ≡ None → items_from (lines ++ line ∷ []) ≡ items_from lines
 items_none lines line none =
-    ap (map item_of) (texts_further start lines line ∙ ap (λ text. texts_from start lines ++ option_to_list text) none ∙ append-nil (texts_from start lines))
+    ap items_of (texts_further start lines line ∙ ap (λ text. texts_from start lines ++ option_to_list text) none ∙ append-nil (texts_from start lines))
+
+items_push : (texts : List Text) (text : Text) → items_of (texts ++ text ∷ []) ≡ items_of texts ++ objects_of_item (item_of text)
+items_push texts text =
+    ap (flat_map objects_of_item) (map_push item_of texts text)
+    ∙ flat_map-append objects_of_item (map item_of texts) (item_of text ∷ [])
+    ∙ ap (λ objects. items_of texts ++ objects) (append-nil (objects_of_item (item_of text)))
 
 -- that ends one
-pub items_some : (lines : List (List ℕ)) (line : List ℕ) (text : Text) → ended (mark_from start lines) line ≡ Some text → items_from (lines ++ line ∷ []) ≡ items_from lines ++ item_of text ∷ []
+pub items_some : (lines : List (List ℕ)) (line : List ℕ) (text : Text) → ended (mark_from start lines) line ≡ Some text → items_from (lines ++ line ∷ []) ≡ items_from lines ++ objects_of_item (item_of text)
 items_some lines line text some =
-    ap (map item_of) (texts_further start lines line ∙ ap (λ found. texts_from start lines ++ option_to_list found) some)
-    ∙ map_push item_of (texts_from start lines) text
+    ap items_of (texts_further start lines line ∙ ap (λ found. texts_from start lines ++ option_to_list found) some)
+    ∙ items_push (texts_from start lines) text
 
 -- ---- what is PEM stays so
 
@@ -103,7 +113,7 @@ no_texts m (line ∷ lines) h =
 
 -- where no text has begun there are no items
 pub no_items : (lines : List (List ℕ)) → is_pem (mark_from start lines).stage ≡ false → items_from lines ≡ []
-no_items lines h = ap (map item_of) (no_texts start lines h)
+no_items lines h = ap items_of (no_texts start lines h)
 
 -- what is kept of octets of which none begin a text
 pub kept_further : (was is : Bool) (kept before bytes chunk : List ℕ) → (was ≡ true → is ≡ true) → (was ≡ false → kept ≡ before ++ chunk) → (was ≡ false → before ≡ bytes) → is ≡ false → kept ≡ bytes ++ chunk
@@ -176,40 +186,80 @@ module _ (bytes : List ℕ) (lines : List (List ℕ)) (line : List ℕ) where
 
 -- ---- items
 
+some_of : (bytes : List ℕ) (found : List (List ℕ)) → 0 < length {A = Item} (map (λ object. Ok object) (else_whole bytes found))
+some_of bytes [] = omega arith
+some_of bytes (object ∷ objects) = omega arith
+
+-- an item stands for one object at least
+some_objects : (item : Item) → 0 < length (objects_of_item item)
+some_objects (Ok bytes) = some_of bytes (found_in (whole_reading content_info.reading bytes))
+some_objects (Err fault) = omega arith
+
 module _ {W E : Type 0} (program : List ℕ) (subject : Subject) (by : Writes W E) (label : List ℕ) where
-  -- they are so many
-  counted : (items : List Item) (pending : Option Item) (count worst : ℕ) (first now : Outputs W E) → AreTold program subject by label items pending count worst first now → count ≡ number_of (length items)
-  counted items None count worst first now told = rw (told.0, told.1) refl
-  counted items (Some item) count worst first now told = told.2
+  -- one object more is done
+  pub tallied : (done : List Item) (object : Item) (count worst status : ℕ) (first old new : Outputs W E) → AreTallied program subject by label done count worst first old → IsCalledDone program subject by label (min (count + 1) (2 ^ 64 - 1)) object old new status → AreTallied program subject by label (done ++ object ∷ []) (min (count + 1) (2 ^ 64 - 1)) (max worst status) first new
+  tallied done object count worst status first old new so called =
+      let many : length (done ++ object ∷ []) ≡ length done + 1 = length-append done (object ∷ []) in
+      let number : min (count + 1) (2 ^ 64 - 1) ≡ number_of (0 + length done + 1) = rw so.0 (omega arith) in
+      let all : min (count + 1) (2 ^ 64 - 1) ≡ number_of (length (done ++ object ∷ [])) = rw (so.0, many) (omega arith) in
+      let here : IsNumberedDone program subject by label (0 + length done + 1) object old new status = subst (λ n. IsCalledDone program subject by label n object old new status) number called in
+      (all, numbered_further program subject by label 0 done object first old new worst status so.1 here)
 
-  -- the one that is pending is done
-  pub flushed : (items : List Item) (item : Item) (count worst status : ℕ) (first old new : Outputs W E) → AreTold program subject by label items (Some item) count worst first old → IsCalledDone program subject by label count item old new status → AreNumberedDone program subject by label 0 items first new (max worst status)
-  flushed items item count worst status first old new told done =
-      let many : length items ≡ 0 + length told.0 + 1 = omega (arith, ap length told.1 ∙ length-append told.0 (item ∷ [])) in
-      let number : count ≡ number_of (0 + length told.0 + 1) = told.2 ∙ ap number_of many in
-      let here : IsNumberedDone program subject by label (0 + length told.0 + 1) item old new status = subst (λ n. IsCalledDone program subject by label n item old new status) number done in
-      rw told.1 (numbered_further program subject by label 0 told.0 item first old new worst status told.3 here)
+  -- of the objects that bytes stand for one more is done
+  pub object_told : (objects told left : List (List ℕ)) (object : List ℕ) (next : Objects) (count worst middle_count middle_worst new_count new_worst : ℕ) (old middle new : Outputs W E) → objects ≡ told ++ left → IsNext left (Some object) next
+      → ((done : List Item) → (first : Outputs W E) → AreTallied program subject by label done count worst first old → AreTallied program subject by label (done ++ map (λ o. Ok o) told) middle_count middle_worst first middle)
+      → ((done : List Item) → (first : Outputs W E) → AreTallied program subject by label done middle_count middle_worst first middle → AreTallied program subject by label (done ++ Ok object ∷ []) new_count new_worst first new)
+      → (told : List (List ℕ)) × (left : List (List ℕ)) × (objects ≡ told ++ left) × AreLeft next left
+      × ((done : List Item) → (first : Outputs W E) → AreTallied program subject by label done count worst first old → AreTallied program subject by label (done ++ map (λ o. Ok o) told) new_count new_worst first new)
+  object_told objects told [] object next count worst middle_count middle_worst new_count new_worst old middle new is taken before goes = absurd (let none : Some object ≡ None = taken in cc)
+  object_told objects told (o ∷ left) object next count worst middle_count middle_worst new_count new_worst old middle new is taken before goes =
+      let same : object ≡ o = (let both : Some object ≡ Some o = taken.0 in cc) in
+      let split : objects ≡ (told ++ object ∷ []) ++ left = is ∙ ap (λ x. told ++ x ∷ left) (sym same) ∙ sym (append_assoc told (object ∷ []) left) in
+      let item : List ℕ → Item = λ x. Ok x in (
+        told ++ object ∷ [],
+        left,
+        split,
+        taken.1,
+        λ done first so.
+            let all : done ++ map item (told ++ object ∷ []) ≡ (done ++ map item told) ++ Ok object ∷ [] =
+            ap (λ items. done ++ items) (map_push item told object) ∙ sym (append_assoc done (map item told) (Ok object ∷ [])) in
+            rw all (goes (done ++ map item told) first (before done first so)),
+      )
 
-  pub flushed_none : (items : List Item) (count worst : ℕ) (first now : Outputs W E) → AreTold program subject by label items None count worst first now → AreNumberedDone program subject by label 0 items first now worst
-  flushed_none items count worst first now told = rw told.0 (told.3, told.2)
+  -- and all are
+  pub objects_told : (objects told left : List (List ℕ)) (taken : Option (List ℕ)) (next : Objects) (count worst new_count new_worst : ℕ) (old new : Outputs W E) → objects ≡ told ++ left → IsNext left taken next → taken ≡ None
+      → ((done : List Item) → (first : Outputs W E) → AreTallied program subject by label done count worst first old → AreTallied program subject by label (done ++ map (λ o. Ok o) told) new_count new_worst first new)
+      → (done : List Item) → (first : Outputs W E) → AreTallied program subject by label done count worst first old → AreTallied program subject by label (done ++ map (λ o. Ok o) objects) new_count new_worst first new
+  objects_told objects told [] taken next count worst new_count new_worst old new is none end so = rw (is ∙ append-nil told) so
+  objects_told objects told (o ∷ left) taken next count worst new_count new_worst old new is some end so = absurd (let both : Some o ≡ None = sym some.0 ∙ end in cc)
+
+  -- the item that is pending is done
+  pub flushed : (items : List Item) (item : Item) (count worst new_count new_worst : ℕ) (first old new : Outputs W E) → AreTold program subject by label items (Some item) count worst first old
+      → ((done : List Item) → (first : Outputs W E) → AreTallied program subject by label done count worst first old → AreTallied program subject by label (done ++ objects_of_item item) new_count new_worst first new)
+      → AreTallied program subject by label items new_count new_worst first new
+  flushed items item count worst new_count new_worst first old new told goes = rw told.1 (goes told.0 first told.2)
+
+  pub flushed_none : (items : List Item) (count worst : ℕ) (first now : Outputs W E) → AreTold program subject by label items None count worst first now → AreTallied program subject by label items count worst first now
+  flushed_none items count worst first now told = rw (told.0, told.1) (refl, (told.3, told.2))
 
   -- one more is pending
-  pub put : (items : List Item) (item : Item) (pending : Option Item) (count worst new_worst : ℕ) (first before now : Outputs W E) → AreTold program subject by label items pending count worst first before → AreNumberedDone program subject by label 0 items first now new_worst → AreTold program subject by label (items ++ item ∷ []) (Some item) (min (count + 1) (2 ^ 64 - 1)) new_worst first now
-  put items item pending count worst new_worst first before now told done =
-      let many : length (items ++ item ∷ []) ≡ length items + 1 = length-append items (item ∷ []) in
-      let so = counted items pending count worst first before told in
-      (items, refl, (rw (so, many) (omega arith)), done)
+  pub put : (items : List Item) (item : Item) (count worst : ℕ) (first now : Outputs W E) → AreTallied program subject by label items count worst first now → AreTold program subject by label (items ++ objects_of_item item) (Some item) count worst first now
+  put items item count worst first now so = (items, refl, so)
 
   -- the only one is called as the input
-  pub alone : (headed : Headed) (items : List Item) (item : Item) (count worst status : ℕ) (first old new : Outputs W E) → AreTold program subject by label items (Some item) count worst first old → count ≡ 1 → IsItemDone program subject by headed label item old new status → AreItemsDone program subject by headed label items first new status
-  alone headed items item count worst status first old new ([], is, many, before) one done =
-      rw is (subst (λ o. IsItemDone program subject by headed label item o new status) before.0 done)
-  alone headed items item count worst status first old new (other ∷ others, is, many, before) one done =
-      let length_is : length items ≡ length others + 2 = ap length is ∙ length-append (other ∷ others) (item ∷ []) ∙ omega arith in
-      absurd (omega (arith, many, one, length_is))
+  pub alone : (headed : Headed) (items : List Item) (item object : Item) (count worst status : ℕ) (first old new : Outputs W E) → AreTold program subject by label items (Some item) count worst first old → count ≡ 0 → objects_of_item item ≡ object ∷ [] → IsItemDone program subject by headed label object old new status → AreItemsDone program subject by headed label items first new status
+  alone headed items item object count worst status first old new ([], is, (many, before)) none one done =
+      rw (is ∙ one) (subst (λ o. IsItemDone program subject by headed label object o new status) before.0 done)
+  alone headed items item object count worst status first old new (other ∷ others, is, (many, before)) none one done =
+      absurd (omega (arith, many, none))
 
-  pub not_one : (items : List Item) (item : Item) (count worst : ℕ) (first now : Outputs W E) → AreTold program subject by label items (Some item) count worst first now → count ≢ 1 → length items ≢ 1
-  not_one items item count worst first now told other = λ one. other (told.2 ∙ ap number_of one)
+  pub not_one : (items : List Item) (item : Item) (count worst : ℕ) (first now : Outputs W E) → AreTold program subject by label items (Some item) count worst first now → (count ≢ 0) ⊎ (length (objects_of_item item) ≢ 1) → length items ≢ 1
+  not_one items item count worst first now told several = λ one.
+      let all : length items ≡ length told.0 + length (objects_of_item item) = ap length told.1 ∙ length-append told.0 (objects_of_item item) in
+      let some : 0 < length (objects_of_item item) = some_objects item in
+      let none : length told.0 ≡ 0 = omega (arith, all, one, some) in
+      let alone : length (objects_of_item item) ≡ 1 = omega (arith, all, one, none) in
+      elim several [ inl more ↦ absurd (more (told.2.0 ∙ ap number_of none)) | inr other ↦ absurd (other alone) ]
 
   pub nothing_done : (headed : Headed) (items : List Item) (count worst : ℕ) (first now : Outputs W E) → AreTold program subject by label items None count worst first now → AreItemsDone program subject by headed label items first now worst
   nothing_done headed items count worst first now told = rw told.0 (told.3, told.2)
@@ -263,16 +313,11 @@ module _ {W E : Type 0} (program : List ℕ) (subject : Subject) (by : Writes W 
   pub pem_items : (mark : Mark) → mark ≡ mark_from start (lines_of bytes) → is_pem mark.stage ≡ true → items_from (lines_of bytes) ++ last_items mark.stage ≡ input_items bytes
   pem_items mark at pem = rw (at, rw at at pem) refl
 
-  -- and what isn't PEM
-  pub other_items : (mark : Mark) → mark ≡ mark_from start (lines_of bytes) → is_pem mark.stage ≡ false → Ok (text_bytes bytes) ∷ [] ≡ input_items bytes
-  other_items mark at none = rw (rw at at none) refl
-
-  -- of what isn't PEM nothing is told
-  pub untold : (mark : Mark) (pending : Option Item) (count worst : ℕ) (now : Outputs W E) → mark ≡ mark_from start (lines_of bytes) → is_pem mark.stage ≡ false → AreTold program subject by label (items_from (lines_of bytes)) pending count worst first now → now ≡ first
-  untold mark None count worst now at none told = told.3
-  untold mark (Some item) count worst now at none told =
+  -- and what isn't PEM, before which there are none
+  pub other_items : (mark : Mark) (kept : List ℕ) → mark ≡ mark_from start (lines_of bytes) → is_pem mark.stage ≡ false → kept ≡ text_bytes bytes → items_from (lines_of bytes) ++ objects_of_item (Ok kept) ≡ input_items bytes
+  other_items mark kept at none is =
       let empty : items_from (lines_of bytes) ≡ [] = no_items (lines_of bytes) (rw at at none) in
-      absurd (omega (arith, ap length (sym empty ∙ told.1) ∙ length-append told.0 (item ∷ [])))
+      rw (empty, is, rw at at none) refl
 
 module _ {W E : Type 0} (program : List ℕ) (subject : Subject) (by : Writes W E) (label : List ℕ) where
   -- the same, of any octets

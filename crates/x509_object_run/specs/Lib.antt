@@ -2,6 +2,9 @@ pub mod Words
 pub mod Labels
 pub mod Below
 pub mod Faults
+pub mod SignedData
+pub mod SignedDataLaws
+pub mod Objects
 pub mod Object
 pub mod Program
 pub mod Reading

@@ -1,5 +1,5 @@
 -- What a program over objects prints of an input.
-use Rattle.std.specs.Prelude.{◌≡◌, ◌⊎◌, ◌||◌, ◌==◌, ℕ, Bool, List, [], ◌∷◌, ◌++◌, not, codes, filter, Option, Some, None, Result, Ok, Err}
+use Rattle.std.specs.Prelude.{◌≡◌, ◌⊎◌, ◌||◌, ◌==◌, ℕ, Bool, List, [], ◌∷◌, ◌++◌, not, codes, filter, map, Option, Some, None, Result, Ok, Err}
 use Rattle.std.specs.Char.{is_ascii_whitespace}
 use Rattle.std.specs.Fmt.{decimal}
 use Rattle.hex.specs.Hex.{decode_of}
@@ -11,6 +11,7 @@ use Rattle.x509_object_run.specs.declared.fault.Fault.TheVariants as faults
 use Rattle.x509_object_run.specs.declared.heading.Headed.{Headed}
 use Rattle.x509_object_run.specs.declared.heading.Headed.TheVariants.{Not, Line, Name}
 use Rattle.x509_object_run.specs.declared.heading.Heading.{Heading}
+use Rattle.x509_object_run.specs.SignedData.{objects_of}
 use Rattle.x509_object_run.specs.declared.fault.PrintError.{PrintError}
 use Rattle.x509_object_run.specs.declared.fault.PrintError.TheVariants.{NoObject, Unwritten, Memory}
 use Rattle.x509_tool_run.specs.Input.{Input, Whole, TooLong, Unreadable, Unkept}
@@ -61,6 +62,11 @@ Item = Result (List ℕ) Fault
 abbrev pub item_of : Text → Item
 item_of (Ok bytes) = Ok bytes
 item_of (Err why) = Err (faults.Unarmoured why)
+
+-- the objects that an item stands for
+abbrev pub objects_of_item : Item → List Item
+objects_of_item (Ok bytes) = map (λ object. Ok object) (objects_of bytes)
+objects_of_item (Err fault) = Err fault ∷ []
 
 -- what an object of an input of several is called
 abbrev pub numbered : List ℕ → ℕ → List ℕ

@@ -1,11 +1,12 @@
 -- What a program over objects does, from its words to its status.
 use Rattle.std.specs.Prelude.{◌≡◌, ◌⊎◌, ◌||◌, ◌<◌, ℕ, ◌+◌, ◌-◌, ◌^◌, max, min, Bool, true, false, List, [], ◌∷◌, ◌++◌, codes, length, map, Option, Some, None, Result, Ok, Err, ltb, if◌then◌else◌}
 use Rattle.std.specs.Fmt.{decimal}
+use Rattle.std.specs.List.{flat_map}
 use Rattle.std.specs.Option.{option_to_list}
 use Rattle.x509_object_run.specs.Below.{AreOfAll, Lists, Stands}
 use Rattle.x509_object_run.specs.Faults.{complaint, fault_text, short_complaint}
 use Rattle.x509_object_run.specs.Labels.{is_standard, label_of}
-use Rattle.x509_object_run.specs.Object.{AreShown, Item, Steps, Subject, heading_for, item_of, numbered, object_bytes, text_bytes, unread_fault}
+use Rattle.x509_object_run.specs.Object.{AreShown, Item, Steps, Subject, heading_for, item_of, numbered, object_bytes, objects_of_item, text_bytes, unread_fault}
 use Rattle.x509_object_run.specs.Words.{has_option, inputs_of, names_of, options_of}
 use Rattle.x509_object_run.specs.declared.fault.Fault.{Fault}
 use Rattle.x509_object_run.specs.declared.fault.Fault.TheVariants.{Unopened, Unreadable, TooLong, Unarmoured, NoObject, Unwritten, Memory}
@@ -15,7 +16,7 @@ use Rattle.x509_tool_run.specs.Answer.{as_line}
 use Rattle.x509_tool_run.specs.Input.{Input, IsRead, Whole, input_limit}
 use Rattle.x509_tool_run.specs.Pem.{lines_of}
 use Rattle.x509_tool_run.specs.Program.{IsWritten, IsCutOff}
-use Rattle.x509_tool_run.specs.Scan.{Mark, is_pem, last_text, mark_from, start, texts_from}
+use Rattle.x509_tool_run.specs.Scan.{Mark, Text, is_pem, last_text, mark_from, start, texts_from}
 use Rattle.x509_tool_run.specs.Transfer.{Moves}
 use Rattle.x509_tool_run.specs.declared.scan.Stage.{Stage}
 use Rattle.x509_tool_run.specs.Version.{version_text}
@@ -183,17 +184,21 @@ AreItemsDone program subject by headed label (item ∷ []) old new status = IsIt
 AreItemsDone program subject by headed label (item ∷ other ∷ items) old new status =
     AreNumberedDone program subject by label 0 (item ∷ other ∷ items) old new status
 
+-- the objects that texts of PEM stand for
+abbrev pub items_of : List Text → List Item
+items_of texts = flat_map objects_of_item (map item_of texts)
+
 -- the items of lines, where texts of PEM have ended in them
 abbrev pub items_from : List (List ℕ) → List Item
-items_from lines = map item_of (texts_from start lines)
+items_from lines = items_of (texts_from start lines)
 
 -- and where the last isn't ended
 abbrev pub last_items : Stage → List Item
-last_items stage = map item_of (option_to_list (last_text stage))
+last_items stage = items_of (option_to_list (last_text stage))
 
--- What an input has that is read whole: the objects of its PEM, or what its hex digits or the whole is.
+-- What an input has that is read whole: the objects that its PEM stands for, or what its hex digits or the whole does.
 abbrev pub whole_items : List ℕ → Mark → List Item → List Item
-whole_items input m items = if is_pem m.stage then items ++ last_items m.stage else Ok (text_bytes input) ∷ []
+whole_items input m items = if is_pem m.stage then items ++ last_items m.stage else objects_of_item (Ok (text_bytes input))
 
 abbrev pub input_items : List ℕ → List Item
 input_items input = whole_items input (mark_from start (lines_of input)) (items_from (lines_of input))
@@ -307,7 +312,7 @@ IsUnkept program takes_errors old new status =
     (new.input ≡ old.input) × (new.output ≡ old.output)
     × IsTold takes_errors old.errors (short_complaint program.name (fault_text [] Memory)) new.errors × (status ≡ 2)
 
--- The inputs of names are done: what lies below directories, and the others themselves. Or there is no memory for what they are called.
+-- The inputs of names are done: the files in directories, and the others themselves. Or there is no memory for what they are called.
 abbrev pub AreNamedDone : {R F W E : Type 0} → Program → Subject → World R F W E → List (List ℕ) → Streams R W E → Streams R W E → ℕ → Type 0
 AreNamedDone program subject world names old new status =
     ((inputs : List (List ℕ)) × (directory : Bool) × AreOfAll world.lists world.stands names inputs directory

@@ -1,9 +1,9 @@
 -- How far the reading of an input is.
-use Rattle.std.specs.Prelude.{◌≡◌, ◌⊎◌, ℕ, false, List, [], ◌∷◌, ◌++◌, length, Option, Some, None}
+use Rattle.std.specs.Prelude.{◌≡◌, ◌⊎◌, ℕ, false, List, [], ◌++◌, length, Option, Some, None}
 use Rattle.std.specs.List.{All}
 use Rattle.std.specs.Option.{option_map}
 use Rattle.std.specs.Result.{result_map_both}
-use Rattle.x509_object_run.specs.Object.{Item, Subject}
+use Rattle.x509_object_run.specs.Object.{Item, Subject, objects_of_item}
 use Rattle.x509_object_run.specs.Program.{AreCutShort, AreItemsDone, AreNumberedDone, IsOver, Outputs, Writes, input_items, items_from, number_of}
 use Rattle.x509_object_run.specs.declared.fault.Fault.{Fault}
 use Rattle.x509_object_run.specs.declared.fault.Fault.TheVariants.{Unopened, Unreadable, TooLong, Unarmoured, NoObject, Unwritten, Memory}
@@ -13,11 +13,16 @@ use Rattle.x509_object_run.specs.declared.lines.Shown.{Shown}
 use Rattle.x509_tool_run.specs.Pem.{ends_line, lines_of}
 use Rattle.x509_tool_run.specs.Scan.{Mark, is_pem, mark_from, mark_of, start}
 
--- Of items those before the last are done, which is pending; there are so many, as a number of the machine, and this is the greatest status.
+-- Objects of several are done; there are so many, as a number of the machine, and this is the greatest of their statuses.
+abbrev pub AreTallied : {W E : Type 0} → List ℕ → Subject → Writes W E → List ℕ → List Item → ℕ → ℕ → Outputs W E → Outputs W E → Type 0
+AreTallied program subject by label done count worst old new =
+    (count ≡ number_of (length done)) × AreNumberedDone program subject by label 0 done old new worst
+
+-- Of the objects of items those before the last item are done, which is pending.
 abbrev pub AreTold : {W E : Type 0} → List ℕ → Subject → Writes W E → List ℕ → List Item → Option Item → ℕ → ℕ → Outputs W E → Outputs W E → Type 0
 AreTold program subject by label items None count worst old new = (items ≡ []) × (count ≡ 0) × (worst ≡ 0) × (new ≡ old)
 AreTold program subject by label items (Some item) count worst old new =
-    (done : List Item) × (items ≡ done ++ item ∷ []) × (count ≡ number_of (length items)) × AreNumberedDone program subject by label 0 done old new worst
+    (done : List Item) × (items ≡ done ++ objects_of_item item) × AreTallied program subject by label done count worst old new
 
 -- the item that is pending
 abbrev pub pending_of : Shown → Option Item

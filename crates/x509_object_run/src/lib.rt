@@ -1,5 +1,6 @@
-//! A program over objects: its words, its inputs, which are DER, PEM or hex text, what it prints, its messages, and its status. What it prints of
-//! an object is for a [`Printer`] to say, and which printer its words ask for for an [`Asked`]. Words of our own are explained in `docs/MAP.md`.
+//! A program over objects: its words, its inputs, which are DER, PEM or hex text, what it prints, its messages, and its status. A SignedData (RFC
+//! 5652) stands for the certificates and CRLs in it. What it prints of an object is for a [`Printer`] to say, and which printer its words ask for
+//! for an [`Asked`]. Words of our own are explained in `docs/MAP.md`.
 #![tactic(auto)]
 
 mod below;
@@ -12,9 +13,11 @@ mod label;
 mod lines;
 mod messages;
 mod named;
+mod objects;
 mod printer;
 mod program;
 mod shown;
+mod signed_data;
 mod words;
 
 pub use console::{Console, Counter};

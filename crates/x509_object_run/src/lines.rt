@@ -2,11 +2,11 @@
 
 ghost use Rattle.std.specs.List.{position};
 ghost use Rattle.std.specs.Option.{option_map};
-ghost use Rattle.std.specs.Prelude.{◌≡◌, ◌⊎◌, ◌<◌, ◌∷◌, ◌++◌, ℕ, List, [], IsTrue, MatchResult, OnErr, OnOk, Some, false, length, true};
+ghost use Rattle.std.specs.Prelude.{◌≡◌, ◌≢◌, ◌⊎◌, ◌<◌, ◌∷◌, ◌++◌, ℕ, List, [], IsTrue, MatchOption, MatchResult, Ok, OnErr, OnOk, Some, false, length, true};
 ghost use Rattle.std.specs.Result.{result_map_both};
-ghost use Rattle.x509_object_run.specs.Object.{Item, item_of, text_bytes};
+ghost use Rattle.x509_object_run.specs.Object.{Item, item_of, objects_of_item, text_bytes};
 ghost use Rattle.x509_object_run.specs.Program.{AreCutShort, AreItemsDone, AreNumberedDone, IsSourceDone, Outputs, items_from, last_items, outputs, writes};
-ghost use Rattle.x509_object_run.specs.Reading.{AreTold, IsFedUp, IsFinished, IsFrontTold, IsHeld, IsNothing, IsUnderway, pending_of};
+ghost use Rattle.x509_object_run.specs.Reading.{AreTallied, AreTold, IsFedUp, IsFinished, IsFrontTold, IsHeld, IsNothing, IsUnderway, pending_of};
 ghost use Rattle.x509_tool_run.specs.Input.{input_limit};
 ghost use Rattle.x509_tool_run.specs.Pem.{ends_line, lines_of};
 ghost use Rattle.x509_tool_run.specs.Scan.{after, is_pem, mark_from, mark_of, start};
@@ -15,12 +15,13 @@ use crate::console::Console;
 use crate::fault::Fault;
 use crate::heading::Headed;
 use crate::input::text_bytes;
+use crate::objects::{Objects, only_of};
 use crate::printer::Printer;
 use crate::shown::{do_item, do_numbered, greater_of, refuse};
 use std::alloc::{AllocError, Global};
 use x509_tool_run::{Broken, INPUT_LIMIT, ReadError, Scan, Sink, Source, Stage, ends_line};
 
-/// The items of an input that were met: the last one, which isn't told of yet, how many there are, and the greatest status of the others.
+/// The items of an input that were met: the last one, which isn't told of yet, how many objects there are in the others, and the greatest of their statuses.
 #[derive(Debug, Drop)]
 struct Shown {
     pending: Option<Result<Vec<u8>, Fault>>,
@@ -28,28 +29,101 @@ struct Shown {
     worst: u8,
 }
 
-/// Tells of the item that is pending, and answers the greatest status of all so far.
+/// Tells of the next object of an input of several.
+fn tell_object<P: Printer, W: Sink, E: Console>(
+    alloc: Global,
+    printer: &P,
+    label: &str,
+    object: Result<&[u8], Fault>,
+    shown: &mut Shown,
+    writer: &mut W,
+    errors: &mut E,
+)
+    ensures { (done : List Item) → (first : Outputs W E)
+        → AreTallied P.program.name (P.subject printer.now) (writes W.takes E.takes E.counts) label.now done shown.old.count shown.old.worst
+        first (outputs writer.old errors.old)
+        → AreTallied P.program.name (P.subject printer.now) (writes W.takes E.takes E.counts) label.now
+        (done ++ result_map_both (λ bytes. bytes.now) (λ fault. fault) object.entry ∷ []) shown.new.count shown.new.worst
+        first (outputs writer.new errors.new) }
+{
+    let number = shown.count.saturating_add(1);
+    let status = do_numbered(alloc, printer, label, number, object, writer, errors);
+    shown.count = number;
+    shown.worst = greater_of(shown.worst, status);
+}
+
+/// Tells of the objects that bytes stand for, one after the other.
+fn tell_objects<P: Printer, W: Sink, E: Console>(
+    alloc: Global,
+    printer: &P,
+    label: &str,
+    bytes: &[u8],
+    shown: &mut Shown,
+    writer: &mut W,
+    errors: &mut E,
+)
+    ensures { (done : List Item) → (first : Outputs W E)
+        → AreTallied P.program.name (P.subject printer.now) (writes W.takes E.takes E.counts) label.now done shown.old.count shown.old.worst
+        first (outputs writer.old errors.old)
+        → AreTallied P.program.name (P.subject printer.now) (writes W.takes E.takes E.counts) label.now
+        (done ++ objects_of_item (Ok bytes.now)) shown.new.count shown.new.worst
+        first (outputs writer.new errors.new) }
+{
+    let mut objects = Objects::of(bytes);
+    while let Some(object) = objects.next() {
+        tell_object(alloc, printer, label, Ok(object), shown, writer, errors);
+    }
+}
+
+/// Tells of the objects that an item stands for.
+fn tell_item<P: Printer, W: Sink, E: Console>(
+    alloc: Global,
+    printer: &P,
+    label: &str,
+    item: &Result<Vec<u8>, Fault>,
+    shown: &mut Shown,
+    writer: &mut W,
+    errors: &mut E,
+)
+    ensures { (done : List Item) → (first : Outputs W E)
+        → AreTallied P.program.name (P.subject printer.now) (writes W.takes E.takes E.counts) label.now done shown.old.count shown.old.worst
+        first (outputs writer.old errors.old)
+        → AreTallied P.program.name (P.subject printer.now) (writes W.takes E.takes E.counts) label.now
+        (done ++ objects_of_item (result_map_both (λ bytes. bytes.items) (λ fault. fault) item.now)) shown.new.count shown.new.worst
+        first (outputs writer.new errors.new) }
+{
+    match item {
+        Ok(bytes) => tell_objects(
+            alloc,
+            printer,
+            label,
+            bytes.as_slice(),
+            shown,
+            writer,
+            errors,
+        ),
+        Err(fault) => tell_object(alloc, printer, label, Err(*fault), shown, writer, errors),
+    }
+}
+
+/// Tells of the item that is pending.
 fn flush<P: Printer, W: Sink, E: Console>(
     alloc: Global,
     printer: &P,
     label: &str,
-    pending: Option<Result<Vec<u8>, Fault>>,
-    count: usize,
-    worst: u8,
+    shown: &mut Shown,
     writer: &mut W,
     errors: &mut E,
-) -> u8
+)
     ensures { (items : List Item) → (first : Outputs W E)
         → AreTold P.program.name (P.subject printer.now) (writes W.takes E.takes E.counts) label.now items
-        (option_map (λ item. result_map_both (λ bytes. bytes.items) (λ fault. fault) item) pending) count worst first (outputs writer.old errors.old)
-        → AreNumberedDone P.program.name (P.subject printer.now) (writes W.takes E.takes E.counts) label.now 0 items first (outputs writer.new errors.new) result }
+        (pending_of shown.old) shown.old.count shown.old.worst first (outputs writer.old errors.old)
+        → AreTallied P.program.name (P.subject printer.now) (writes W.takes E.takes E.counts) label.now items
+        shown.new.count shown.new.worst first (outputs writer.new errors.new) }
 {
-    match pending {
-        Some(item) => {
-            let status = do_numbered(alloc, printer, label, count, item, writer, errors);
-            greater_of(worst, status)
-        }
-        None => worst,
+    match shown.pending.take() {
+        Some(item) => tell_item(alloc, printer, label, &item, shown, writer, errors),
+        None => {}
     }
 }
 
@@ -68,24 +142,12 @@ fn put_item<P: Printer, W: Sink, E: Console>(
         (pending_of shown.old) shown.old.count shown.old.worst
         first (outputs writer.old errors.old)
         → AreTold P.program.name (P.subject printer.now) (writes W.takes E.takes E.counts) label.now
-        (items ++ result_map_both (λ bytes. bytes.items) (λ fault. fault) item ∷ [])
+        (items ++ objects_of_item (result_map_both (λ bytes. bytes.items) (λ fault. fault) item))
         (pending_of shown.new) shown.new.count shown.new.worst
         first (outputs writer.new errors.new) }
 {
-    let before = shown.pending.take();
-    let worst = flush(
-        alloc,
-        printer,
-        label,
-        before,
-        shown.count,
-        shown.worst,
-        writer,
-        errors,
-    );
+    flush(alloc, printer, label, shown, writer, errors);
     shown.pending = Some(item);
-    shown.count = shown.count.saturating_add(1);
-    shown.worst = worst;
 }
 
 /// A text of PEM as an item.
@@ -321,17 +383,7 @@ fn stop<P: Printer, W: Sink, E: Console>(
         first (outputs writer.old errors.old)
         → AreCutShort P.program.name (P.subject printer.now) (writes W.takes E.takes E.counts) headed label.now items fault first (outputs writer.new errors.new) result }
 {
-    let pending = shown.pending.take();
-    let _ = flush(
-        alloc,
-        printer,
-        label,
-        pending,
-        shown.count,
-        shown.worst,
-        writer,
-        errors,
-    );
+    flush(alloc, printer, label, shown, writer, errors);
     refuse(alloc, printer, headed, label, fault, writer, errors);
     2
 }
@@ -366,28 +418,48 @@ fn put_last<P: Printer, W: Sink, E: Console>(
     }
 }
 
-/// Tells of the item that is pending: of the only one as of the input.
+/// The object that an item stands for, where so many were told of before, and it is the only one.
+fn only_object(count: usize, item: &Result<Vec<u8>, Fault>) -> Option<Result<&[u8], Fault>>
+    ensures { MatchOption result
+        ((count ≢ 0) ⊎ (length (objects_of_item (result_map_both (λ bytes. bytes.items) (λ fault. fault) item.now)) ≢ 1))
+        (λ object. (count ≡ 0) × (objects_of_item (result_map_both (λ bytes. bytes.items) (λ fault. fault) item.now)
+        ≡ result_map_both (λ bytes. bytes.now) (λ fault. fault) object ∷ [])) }
+{
+    if count > 0 {
+        return None;
+    }
+    match item {
+        Ok(bytes) => match only_of(bytes.as_slice()) {
+            Some(object) => Some(Ok(object)),
+            None => None,
+        },
+        Err(fault) => Some(Err(*fault)),
+    }
+}
+
+/// Tells of the item that is pending: of the only object as of the input.
 fn do_pending<P: Printer, W: Sink, E: Console>(
     alloc: Global,
     printer: &P,
     headed: Headed,
     label: &str,
-    item: Result<Vec<u8>, Fault>,
-    count: usize,
-    worst: u8,
+    item: &Result<Vec<u8>, Fault>,
+    shown: &mut Shown,
     writer: &mut W,
     errors: &mut E,
 ) -> u8
     ensures { (items : List Item) → (first : Outputs W E)
         → AreTold P.program.name (P.subject printer.now) (writes W.takes E.takes E.counts) label.now items
-        (Some (result_map_both (λ bytes. bytes.items) (λ fault. fault) item)) count worst first (outputs writer.old errors.old)
+        (Some (result_map_both (λ bytes. bytes.items) (λ fault. fault) item.now)) shown.old.count shown.old.worst first (outputs writer.old errors.old)
         → AreItemsDone P.program.name (P.subject printer.now) (writes W.takes E.takes E.counts) headed label.now items first (outputs writer.new errors.new) result }
 {
-    if count == 1 {
-        return do_item(alloc, printer, headed, label, item, writer, errors);
+    match only_object(shown.count, item) {
+        Some(object) => do_item(alloc, printer, headed, label, object, writer, errors),
+        None => {
+            tell_item(alloc, printer, label, item, shown, writer, errors);
+            shown.worst
+        }
     }
-    let status = do_numbered(alloc, printer, label, count, item, writer, errors);
-    greater_of(worst, status)
 }
 
 /// Tells of the last item of an input.
@@ -406,17 +478,7 @@ fn do_last<P: Printer, W: Sink, E: Console>(
         → AreItemsDone P.program.name (P.subject printer.now) (writes W.takes E.takes E.counts) headed label.now items first (outputs writer.new errors.new) result }
 {
     match shown.pending.take() {
-        Some(item) => do_pending(
-            alloc,
-            printer,
-            headed,
-            label,
-            item,
-            shown.count,
-            shown.worst,
-            writer,
-            errors,
-        ),
+        Some(item) => do_pending(alloc, printer, headed, label, &item, shown, writer, errors),
         None => shown.worst,
     }
 }
@@ -473,7 +535,10 @@ fn finish_read<P: Printer, W: Sink, E: Console>(
         );
     }
     match text_bytes(alloc, kept) {
-        Ok(bytes) => do_item(alloc, printer, headed, label, Ok(bytes), writer, errors),
+        Ok(bytes) => {
+            put_item(alloc, printer, label, shown, Ok(bytes), writer, errors);
+            do_last(alloc, printer, headed, label, shown, writer, errors)
+        }
         Err(AllocError) => stop(
             alloc,
             printer,

@@ -54,7 +54,8 @@ fn show_inputs<P: Printer, R: Source, F: Source + Drop, O: Opener<F>, W: Sink, E
     )
 }
 
-/// Shows the inputs that are named, or standard input where none is, and answers the greatest of their statuses. A directory stands for the files in it.
+/// Shows the inputs that are named, or standard input where none is, and answers the greatest of their statuses. A directory stands for the files in it,
+/// and a SignedData for the certificates and CRLs in it.
 pub fn show_all<P: Printer, R: Source, F: Source + Drop, O: Opener<F>, W: Sink, E: Console>(
     alloc: Global,
     printer: &P,

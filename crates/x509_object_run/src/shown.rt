@@ -134,23 +134,15 @@ fn show_item<P: Printer, W: Sink, E: Console>(
     printer: &P,
     headed: Headed,
     label: &str,
-    item: Result<Vec<u8>, Fault>,
+    item: Result<&[u8], Fault>,
     writer: &mut W,
     errors: &mut E,
 ) -> u8
     ensures { IsItemShown P.program.name (P.subject printer.now) (writes W.takes E.takes E.counts) headed label.now
-        (result_map_both (λ bytes. bytes.items) (λ fault. fault) item) (outputs writer.old errors.old) (outputs writer.new errors.new) result }
+        (result_map_both (λ bytes. bytes.now) (λ fault. fault) item.entry) (outputs writer.old errors.old) (outputs writer.new errors.new) result }
 {
     match item {
-        Ok(bytes) => do_object(
-            alloc,
-            printer,
-            headed,
-            label,
-            bytes.as_slice(),
-            writer,
-            errors,
-        ),
+        Ok(bytes) => do_object(alloc, printer, headed, label, bytes, writer, errors),
         Err(fault) => {
             refuse(alloc, printer, headed, label, fault, writer, errors);
             2
@@ -164,12 +156,12 @@ pub(crate) fn do_item<P: Printer, W: Sink, E: Console>(
     printer: &P,
     headed: Headed,
     label: &str,
-    item: Result<Vec<u8>, Fault>,
+    item: Result<&[u8], Fault>,
     writer: &mut W,
     errors: &mut E,
 ) -> u8
     ensures { IsItemDone P.program.name (P.subject printer.now) (writes W.takes E.takes E.counts) headed label.now
-        (result_map_both (λ bytes. bytes.items) (λ fault. fault) item) (outputs writer.old errors.old) (outputs writer.new errors.new) result }
+        (result_map_both (λ bytes. bytes.now) (λ fault. fault) item.entry) (outputs writer.old errors.old) (outputs writer.new errors.new) result }
 {
     let status = show_item(alloc, printer, headed, label, item, writer, errors);
     note::<P, E>(alloc, errors);
@@ -182,12 +174,12 @@ pub(crate) fn do_numbered<P: Printer, W: Sink, E: Console>(
     printer: &P,
     label: &str,
     number: usize,
-    item: Result<Vec<u8>, Fault>,
+    item: Result<&[u8], Fault>,
     writer: &mut W,
     errors: &mut E,
 ) -> u8
     ensures { IsCalledDone P.program.name (P.subject printer.now) (writes W.takes E.takes E.counts) label.now number
-        (result_map_both (λ bytes. bytes.items) (λ fault. fault) item) (outputs writer.old errors.old) (outputs writer.new errors.new) result }
+        (result_map_both (λ bytes. bytes.now) (λ fault. fault) item.entry) (outputs writer.old errors.old) (outputs writer.new errors.new) result }
 {
     match numbered(alloc, label, number) {
         Ok(numbered) => {

@@ -16,8 +16,9 @@ const HELP: &[u8] = b"usage: x509_show [certificate|crl|csr|anchor] [--json] [FI
        x509_show --sct-input ISSUER [FILE]
 
 Prints certificates, CRLs, CSRs and trust anchors, in DER, PEM or hex: a line for
-each thing in them. Of PEM each object is printed by itself. A FILE that is a directory
-stands for the files in it. Without a FILE, and where FILE is -, it reads standard input.
+each thing in them. Of PEM, PKCS #7 or CMS each object is printed by itself. A FILE that
+is a directory stands for the files in it. Without a FILE, and where FILE is -, it reads
+standard input.
 
   certificate, crl, csr, anchor  what each input is; without such a word it is tried
                                  as each of them, in this order

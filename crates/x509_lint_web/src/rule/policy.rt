@@ -7,7 +7,9 @@ ghost use Rattle.x509_lint_web.specs.Sentence.{IsTold};
 
 use crate::entry::{WebEntry, entries};
 use crate::names::{has_attribute, has_other_attribute};
-use crate::places::{have_other_location, is_other_method_among, is_without_revocation};
+use crate::places::{
+    are_without_ocsp, have_other_location, is_other_method_among, is_without_revocation,
+};
 use crate::policies::{
     ANY_POLICY, DOMAIN_VALIDATED, ORGANIZATION_VALIDATED, are_qualified, has_policy,
     is_other_among, is_reserved_among,
@@ -57,6 +59,10 @@ pub enum WebPolicyRule {
     /// There is no authority information access (TLS BR 7.1.2.7.7, error, from 2012-07-01).
     AuthorityInfoAccessAbsent,
 
+    /// The authority information access has no access description for OCSP (TLS BR 7.1.2.7.7, error, from 2012-07-01, until
+    /// 2024-03-15).
+    OcspAccessAbsent,
+
     /// An access method is neither OCSP nor caIssuers (TLS BR 7.1.2.7.7, error, from 2023-09-15).
     AccessMethodOther,
 
@@ -73,7 +79,7 @@ pub enum WebPolicyRule {
 }
 
 /// How the rules are told, in the order of their variants.
-static ENTRIES: [WebEntry; 14] = entries! {
+static ENTRIES: [WebEntry; 15] = entries! {
     CertificatePoliciesAbsent => must("certificate_policies_absent", "7.1.2.7.9", None, "tbsCertificate.extensions.certificatePolicies"),
     CertificatePoliciesCritical =>
         must("certificate_policies_critical", "7.1.2.7.6", from_day(2023, 9, 15), "tbsCertificate.extensions.certificatePolicies"),
@@ -86,6 +92,8 @@ static ENTRIES: [WebEntry; 14] = entries! {
     OrganizationValidatedWithoutCountry => must("organization_validated_without_country", "7.1.2.7.4", None, "tbsCertificate.subject"),
     AuthorityInfoAccessAbsent =>
         must("authority_info_access_absent", "7.1.2.7.7", from_day(2012, 7, 1), "tbsCertificate.extensions.authorityInfoAccess"),
+    OcspAccessAbsent =>
+        must("ocsp_access_absent", "7.1.2.7.7", from_day(2012, 7, 1), before_day(2024, 3, 15), "tbsCertificate.extensions.authorityInfoAccess"),
     AccessMethodOther => must("access_method_other", "7.1.2.7.7", from_day(2023, 9, 15), "tbsCertificate.extensions.authorityInfoAccess"),
     AccessLocationNotHttp => must("access_location_not_http", "7.1.2.7.7", from_day(2023, 9, 15), "tbsCertificate.extensions.authorityInfoAccess"),
     RevocationAbsentOver10Days => must("revocation_absent_over_10_days", "7.1.2.11.2", from_day(2024, 3, 15), "tbsCertificate.extensions"),
@@ -109,6 +117,7 @@ impl WebPolicyRule {
             | WebPolicyRule::OrganizationValidatedWithoutOrganization
             | WebPolicyRule::OrganizationValidatedWithoutCountry => Part::Subject,
             WebPolicyRule::AuthorityInfoAccessAbsent
+            | WebPolicyRule::OcspAccessAbsent
             | WebPolicyRule::AccessMethodOther
             | WebPolicyRule::AccessLocationNotHttp => Part::Extension(
                 AuthorityInfoAccessSyntax::OID,
@@ -151,6 +160,7 @@ impl WebPolicyRule {
             WebPolicyRule::AuthorityInfoAccessAbsent => !has::<AuthorityInfoAccessSyntax>(
                 extensions,
             ),
+            WebPolicyRule::OcspAccessAbsent => are_without_ocsp(&values.authority_info_access),
             WebPolicyRule::AccessMethodOther =>
                 passes!(&values.authority_info_access, descriptions => is_other_method_among(descriptions.0.as_slice())),
             WebPolicyRule::AccessLocationNotHttp => have_other_location(

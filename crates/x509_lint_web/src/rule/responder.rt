@@ -6,7 +6,8 @@ ghost use Rattle.x509_lint_web.specs.Seen as seen;
 ghost use Rattle.x509_lint_web.specs.Sentence.{IsTold};
 
 use crate::entry::{WebEntry, entries};
-use crate::responders::{OcspNoCheck, has_bit_not_of_responder, has_other_purpose};
+use crate::responders::{OcspNoCheck, has_bit_not_of_responder};
+use crate::scope::{OCSP_SIGNING, has_other_purpose};
 use crate::seen::Part;
 use crate::values::WebValues;
 use x509_base::Raw;
@@ -113,6 +114,7 @@ impl WebResponderRule {
             WebResponderRule::OcspNoCheckAbsent => !has::<OcspNoCheck>(extensions),
             WebResponderRule::OcspNoCheckCritical => has_critical::<OcspNoCheck>(extensions),
             WebResponderRule::ResponderPurposeOther => has_other_purpose(
+                OCSP_SIGNING,
                 &values.extended_key_usage,
             ),
             WebResponderRule::ResponderKeyUsageAbsent => !has::<KeyUsage>(extensions),

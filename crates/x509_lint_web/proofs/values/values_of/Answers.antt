@@ -14,6 +14,7 @@ returns-clause-ok c = (
     c.in_ok-payload-6.ensures.ok,
     c.in_ok-payload-7.ensures.ok,
     c.in_ok-payload-8.ensures.ok,
+    c.in_ok-payload-9.ensures.ok,
     subst (λ octets. IsSpelled numbers octets c.in_ok-spelled.field-0) c.raw_bytes.ensures.octets c.in_ok-spelled.ensures.ok,
   ),
   (c.in_ok-has_stray_name.ensures, c.in_ok-has_rewritten_name.ensures, c.in_ok-has_other_labels.ensures),
