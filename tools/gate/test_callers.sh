@@ -220,6 +220,10 @@ program() {
 if has python3 "spoilt rows, certificates and CRLs that break a rule, hostile texts in x509_show, and x509_show beside openssl"; then
     program x509_test_rows
     python3 -B "$robustness/spoil_rows.py" --places 8 "$top/crates/x509_test_rows/out/x509_test_rows" || failed=1
+    if has valgrind "sets that are put into places by lengths"; then
+        program x509_name_tool
+        python3 -B "$gate/test_sorting.py" "$top/crates/x509_name_tool/out/x509_name_tool" || failed=1
+    fi
     program x509_linter
     python3 -B "$gate/test_linter.py" "$top/crates/x509_linter/out/x509_linter" || failed=1
     program x509_show
