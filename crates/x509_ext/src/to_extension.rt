@@ -37,11 +37,15 @@ pub trait ToExtension: Sized {
         ensures { makes self subject.now extensions.now result };
 }
 
-/// A payload of at most so many octets is encoded on the stack; a longer one is counted first. The extension takes memory for just its length.
-const MAX_ON_STACK: usize = 512;
+/// A payload of at most so many octets is encoded on the stack.
+const MAX_SHORT: usize = 512;
 
-/// The extension that holds the encoding of the value.
-fn hold<T: Encode>(
+/// So is one of at most so many, in a second try; a longer one is counted first. The extension takes memory for just its length.
+const MAX_ON_STACK: usize = 4096;
+
+/// The extension that holds the encoding of the value, of more than [`MAX_SHORT`] octets, or why there is none.
+#[inline(never)]
+fn hold_long<T: Encode>(
     alloc: Global,
     extn_id: ObjectIdentifier,
     critical: bool,
@@ -49,8 +53,8 @@ fn hold<T: Encode>(
 ) -> Result<Extension, Error>
     ensures { Makes extn_id critical T.form (writes T.writing payload.now) result }
 {
-    let mut short = [0; MAX_ON_STACK];
-    if let Ok(octets) = payload.encode_to_slice(&mut short) {
+    let mut long = [0; MAX_ON_STACK];
+    if let Ok(octets) = payload.encode_to_slice(&mut long) {
         return Ok(Extension {
             extn_id,
             critical,
@@ -62,6 +66,26 @@ fn hold<T: Encode>(
         critical,
         extn_value: OctetString::from_vec(to_counted_der(payload, alloc)?)?,
     })
+}
+
+/// The extension that holds the encoding of the value.
+fn hold<T: Encode>(
+    alloc: Global,
+    extn_id: ObjectIdentifier,
+    critical: bool,
+    payload: &T,
+) -> Result<Extension, Error>
+    ensures { Makes extn_id critical T.form (writes T.writing payload.now) result }
+{
+    let mut short = [0; MAX_SHORT];
+    if let Ok(octets) = payload.encode_to_slice(&mut short) {
+        return Ok(Extension {
+            extn_id,
+            critical,
+            extn_value: OctetString::new(alloc, octets)?,
+        });
+    }
+    hold_long(alloc, extn_id, critical, payload)
 }
 
 /// The extension as it is. It takes no memory.

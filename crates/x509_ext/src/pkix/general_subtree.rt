@@ -17,7 +17,7 @@ use x509_der::{
 ///     minimum  [0] IMPLICIT INTEGER (0..4294967295) DEFAULT 0,
 ///     maximum  [1] IMPLICIT INTEGER (0..4294967295) OPTIONAL }
 /// ```
-#[derive(Debug, Drop, PartialEq, Eq)]
+#[derive(Debug, PartialEq, Eq)]
 pub struct GeneralSubtree {
     /// The base name.
     pub base: GeneralName,
@@ -27,6 +27,16 @@ pub struct GeneralSubtree {
 
     /// How far below the base the subtree ends; it has no end where absent.
     pub maximum: Option<u32>,
+}
+
+impl Drop for GeneralSubtree {
+    fn drop(self) {
+        let GeneralSubtree {
+            base: _,
+            minimum: _,
+            maximum: _,
+        } = self;
+    }
 }
 
 /// A list of subtrees, in their order (RFC 5280 4.2.1.10). An empty sequence is decoded and encoded too.
