@@ -219,12 +219,19 @@ def law_of(form, file):
     return short and re.fullmatch(r"\w+", short.body) and law_of(short.body, short.file)
 
 
+def forms_of(line):
+    """The words of a grammar line; those of its parts that have a name of their own stand in place of that name."""
+    for word in re.findall(r"[^\W\d]\w*", line.body):
+        part = next((it for it in declared.definitions(line.crate) if it.file == line.file and it.name == word and re.search(r"(?:^|→ )Part ", it.kind)), None)
+        yield from forms_of(part) if part else [word]
+
+
 def law(of):
     """The definition that finds the law of a sequence by search, with its text as it would be: over the laws of the forms that the grammar line names."""
     grammar = grammar_of(of)
     for it in declared.definitions(of.crate):
         if it.name == f"{grammar.name}_lawful" and (said := re.match(r"search \(part_rules((?:, \w+)*)\) depth \d+$", it.body)):
-            laws = list(dict.fromkeys(filter(None, (law_of(form, it.file) for form in re.findall(r"[^\W\d]\w*", grammar.line.body)))))
+            laws = list(dict.fromkeys(filter(None, (law_of(form, it.file) for form in forms_of(grammar.line)))))
             is_same = set(laws) == set(said[1].split(", ")[1:])
             yield it, it.text if is_same else it.text.replace(f"part_rules{said[1]}", ", ".join(["part_rules", *laws]))
 

@@ -123,10 +123,10 @@ def framed(term, file):
     """The frames of a term, in its pairs. What else a file calls a frame is defined there."""
     if isinstance(term, tuple):
         return tuple(framed(part, file) for part in term)
-    head, *arguments = term
+    head, *arguments = [term] if isinstance(term, str) else term
     if head not in ("required", "optional", "defaulted"):
         shortened = next(it for it in declared.definitions(file.parts[-3]) if it.file == file and it.name == head)
-        names = re.search(rf"^{head} (.*?) =", shortened.text, re.M)[1].split()
+        names = re.search(rf"^{head}((?: \S+)*?) =", shortened.text, re.M)[1].split()
         given = dict(zip(names, arguments))
         return framed(parsed(" ".join(given.get(word, word) for word in re.findall(r"[()]|[^\s()]+", shortened.body))), file)
     form = arguments[-1]

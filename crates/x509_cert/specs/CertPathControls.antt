@@ -27,16 +27,21 @@ use Rattle.x509_cert.specs.declared.anchor.cert_policies.CertPolicies.{CertPolic
 
 -- ---- the grammar
 
-abbrev Front : Type 0 → Type 0
+abbrev pub Front : Type 0 → Type 0
 Front P = List (List AttributeTypeAndValue) × (Option (CertificateInner P) × Option CertificatePolicies)
 
-abbrev Behind : Type 0
+abbrev pub Behind : Type 0
 Behind = Option CertPolicies × (Option NameConstraints × Option ℕ)
 
+-- the fields up to the policies, and those behind them
+abbrev pub cert_path_controls_front : {P : Type 0} → (List ℕ → Result Unit ErrorKind) → Part (Front P)
+cert_path_controls_front check = required name ⊗ (optional (implicit 0 (certificate check)) ⊗ optional (implicit 1 certificate_policies))
+
+abbrev pub cert_path_controls_behind : Part Behind
+cert_path_controls_behind = optional (implicit 2 cert_policies) ⊗ (optional (implicit 3 name_constraints) ⊗ optional (implicit 4 (natural (2 ^ 32))))
+
 unfoldable pub cert_path_controls_fields : {P : Type 0} → (List ℕ → Result Unit ErrorKind) → Part (Front P × Behind)
-cert_path_controls_fields check =
-    (required name ⊗ (optional (implicit 0 (certificate check)) ⊗ optional (implicit 1 certificate_policies)))
-    ⊗ (optional (implicit 2 cert_policies) ⊗ (optional (implicit 3 name_constraints) ⊗ optional (implicit 4 (natural (2 ^ 32)))))
+cert_path_controls_fields check = cert_path_controls_front check ⊗ cert_path_controls_behind
 
 abbrev pub cert_path_controls_contents : {P : Type 0} → (List ℕ → Result Unit ErrorKind) → Contents (CertPathControls P)
 cert_path_controls_contents check = fields

@@ -47,10 +47,17 @@ Front P = Version × (List ℕ × (AlgorithmIdentifier × (NameList × Validity 
 abbrev pub Behind : Type 0
 Behind = NameList × (SubjectPublicKeyInfo × (Option BitParts × (Option BitParts × Option (List Extension))))
 
+-- the fields up to the validity, and those behind it
+abbrev pub tbs_certificate_front : {P : Type 0} → (List ℕ → Result Unit ErrorKind) → Part (Front P)
+tbs_certificate_front check =
+    defaulted version_default (explicit 0 version) ⊗ (required (serial_number check) ⊗ (required algorithm_identifier ⊗ (required name ⊗ required validity)))
+
+abbrev pub tbs_certificate_behind : Part Behind
+tbs_certificate_behind =
+    required name ⊗ (required subject_public_key_info ⊗ (optional (implicit 1 bit_string) ⊗ (optional (implicit 2 bit_string) ⊗ optional (explicit 3 extensions))))
+
 unfoldable pub tbs_certificate_fields : {P : Type 0} → (List ℕ → Result Unit ErrorKind) → Part (Front P × Behind)
-tbs_certificate_fields check =
-    (defaulted version_default (explicit 0 version) ⊗ (required (serial_number check) ⊗ (required algorithm_identifier ⊗ (required name ⊗ required validity))))
-    ⊗ (required name ⊗ (required subject_public_key_info ⊗ (optional (implicit 1 bit_string) ⊗ (optional (implicit 2 bit_string) ⊗ optional (explicit 3 extensions)))))
+tbs_certificate_fields check = tbs_certificate_front check ⊗ tbs_certificate_behind
 
 -- the check is that of the profile on the content octets of the serial number
 abbrev pub tbs_certificate_contents : {P : Type 0} → (List ℕ → Result Unit ErrorKind) → Contents (TbsCertificateInner P)

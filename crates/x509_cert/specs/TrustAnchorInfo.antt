@@ -22,16 +22,21 @@ use Rattle.x509_cert.specs.declared.anchor.cert_path_controls.CertPathControls.{
 use Rattle.x509_cert.specs.declared.anchor.trust_anchor_info.TrustAnchorInfo.{TrustAnchorInfo}
 use Rattle.x509_cert.specs.declared.anchor.version.Version.{Version}
 
-abbrev Front : Type 0
+abbrev pub Front : Type 0
 Front = Version × (SubjectPublicKeyInfo × (List ℕ × Option (List ℕ)))
 
-abbrev Behind : Type 0 → Type 0
+abbrev pub Behind : Type 0 → Type 0
 Behind P = Option (CertPathControls P) × (Option (List Extension) × Option (List ℕ))
 
+-- the fields up to the title, and those behind it
+abbrev pub trust_anchor_info_front : Part Front
+trust_anchor_info_front = defaulted version_default version ⊗ (required subject_public_key_info ⊗ (required octet_string ⊗ optional utf8_string))
+
+abbrev pub trust_anchor_info_behind : {P : Type 0} → (List ℕ → Result Unit ErrorKind) → Part (Behind P)
+trust_anchor_info_behind check = optional (cert_path_controls check) ⊗ (optional (explicit 1 extensions) ⊗ optional (implicit 2 utf8_string))
+
 unfoldable pub trust_anchor_info_fields : {P : Type 0} → (List ℕ → Result Unit ErrorKind) → Part (Front × Behind P)
-trust_anchor_info_fields check =
-    (defaulted version_default version ⊗ (required subject_public_key_info ⊗ (required octet_string ⊗ optional utf8_string)))
-    ⊗ (optional (cert_path_controls check) ⊗ (optional (explicit 1 extensions) ⊗ optional (implicit 2 utf8_string)))
+trust_anchor_info_fields check = trust_anchor_info_front ⊗ trust_anchor_info_behind check
 
 abbrev pub trust_anchor_info_contents : {P : Type 0} → (List ℕ → Result Unit ErrorKind) → Contents (TrustAnchorInfo P)
 trust_anchor_info_contents check = fields

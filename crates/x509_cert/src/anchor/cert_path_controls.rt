@@ -1,5 +1,8 @@
 //! Constraints on the certification paths from a trust anchor.
 
+ghost use Rattle.x509_cert.specs.CertPathControls as grammar;
+ghost use Rattle.x509_der.specs.Outcome.{GivesBefore};
+
 use crate::anchor::cert_policies::CertPolicyFlags;
 use crate::certificate::CertificateInner;
 use std::alloc::Global;
@@ -70,6 +73,40 @@ impl<P: Profile> TryClone for CertPathControls<P> {
     }
 }
 
+/// The fields up to the policies. Each half of the fields is read by itself, as in [`TbsCertificateInner`](crate::certificate::TbsCertificateInner).
+type Front<P> = (
+    Name,
+    (Option<CertificateInner<P>>, Option<CertificatePolicies>),
+);
+
+/// The fields behind them.
+type Behind = (
+    Option<CertPolicyFlags>,
+    (Option<NameConstraints>, Option<u32>),
+);
+
+/// Reads the fields up to the policies.
+#[inline(always)]
+fn read_front<P: Profile>(alloc: Global, rest: &mut &[u8]) -> Result<Front<P>, Error>
+    ensures { GivesBefore result rest.new.now ((grammar.cert_path_controls_front P.serial_check).reading rest.old.now) }
+{
+    let ta_name = read_field::<Name>(alloc, rest)?;
+    let certificate = read_optional_implicit::<CertificateInner<P>>(alloc, 0, rest)?;
+    let policy_set = read_optional_implicit::<CertificatePolicies>(alloc, 1, rest)?;
+    Ok((ta_name, (certificate, policy_set)))
+}
+
+/// Reads the fields behind the policies.
+#[inline(always)]
+fn read_behind(alloc: Global, rest: &mut &[u8]) -> Result<Behind, Error>
+    ensures { GivesBefore result rest.new.now (grammar.cert_path_controls_behind.reading rest.old.now) }
+{
+    let policy_flags = read_optional_implicit::<CertPolicyFlags>(alloc, 2, rest)?;
+    let name_constr = read_optional_implicit::<NameConstraints>(alloc, 3, rest)?;
+    let path_len_constraint = read_optional_implicit::<u32>(alloc, 4, rest)?;
+    Ok((policy_flags, (name_constr, path_len_constraint)))
+}
+
 #[tactic(auto, unfolding(crate::specs::CertPathControls::cert_path_controls_fields, x509_der::specs::Frames::fields_reading, x509_der::specs::Frames::fields_octets), using(x509_der::specs::FrameWriting::text_in_option, x509_der::specs::FrameWriting::refusal_in_option))]
 impl<P: Profile> Content for CertPathControls<P> {
     ghost use Rattle.x509_base.specs.Checked.{CheckRefuses};
@@ -88,12 +125,8 @@ impl<P: Profile> Content for CertPathControls<P> {
 
     fn read_content(alloc: Global, octets: &[u8]) -> Result<CertPathControls<P>, Error> {
         let mut rest = octets;
-        let ta_name = read_field::<Name>(alloc, &mut rest)?;
-        let certificate = read_optional_implicit::<CertificateInner<P>>(alloc, 0, &mut rest)?;
-        let policy_set = read_optional_implicit::<CertificatePolicies>(alloc, 1, &mut rest)?;
-        let policy_flags = read_optional_implicit::<CertPolicyFlags>(alloc, 2, &mut rest)?;
-        let name_constr = read_optional_implicit::<NameConstraints>(alloc, 3, &mut rest)?;
-        let path_len_constraint = read_optional_implicit::<u32>(alloc, 4, &mut rest)?;
+        let (ta_name, (certificate, policy_set)) = read_front::<P>(alloc, &mut rest)?;
+        let (policy_flags, (name_constr, path_len_constraint)) = read_behind(alloc, &mut rest)?;
         end(rest)?;
         Ok(CertPathControls {
             ta_name,

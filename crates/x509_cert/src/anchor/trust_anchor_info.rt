@@ -1,5 +1,11 @@
 //! The description of a trust anchor.
 
+ghost use Rattle.std.specs.Prelude.{◌≡◌, IfErr, IfOk};
+ghost use Rattle.x509_cert.specs.TrustAnchorInfo as grammar;
+ghost use Rattle.x509_der.specs.Frames.{fields_reading};
+ghost use Rattle.x509_der.specs.Outcome.{Gives, GivesBefore};
+ghost use Rattle.x509_der.specs.declared.error.ErrorKind.TheVariants.{Memory};
+
 use crate::anchor::cert_path_controls::CertPathControls;
 use crate::anchor::version::Version;
 use std::alloc::Global;
@@ -63,18 +69,80 @@ impl<P: Profile> Drop for TrustAnchorInfo<P> {
     }
 }
 
+/// The fields up to the title. Each half of the fields is read and copied by itself, as in [`TbsCertificateInner`](crate::certificate::TbsCertificateInner).
+type Front = (
+    Version,
+    (SubjectPublicKeyInfo, (OctetString, Option<Utf8String>)),
+);
+
+/// The fields behind it.
+type Behind<P> = (
+    Option<CertPathControls<P>>,
+    (Option<Extensions>, Option<Utf8String>),
+);
+
+/// Copies of the fields up to the title.
+fn clone_front<P: Profile>(alloc: Global, info: &TrustAnchorInfo<P>) -> Result<Front, Error>
+    ensures ok { IfOk result (λ copies. copies ≡ (info.now.version, (info.now.pub_key, (info.now.key_id, info.now.ta_title)))) }
+    ensures err { IfErr result (λ e. e.kind ≡ Memory) }
+{
+    let pub_key = info.pub_key.try_clone(alloc)?;
+    let key_id = info.key_id.try_clone(alloc)?;
+    let ta_title = info.ta_title.try_clone(alloc)?;
+    Ok((info.version, (pub_key, (key_id, ta_title))))
+}
+
+/// Copies of the fields behind it.
+fn clone_behind<P: Profile>(alloc: Global, info: &TrustAnchorInfo<P>) -> Result<Behind<P>, Error>
+    ensures ok { IfOk result (λ copies. copies ≡ (info.now.cert_path, (info.now.extensions, info.now.ta_title_lang_tag))) }
+    ensures err { IfErr result (λ e. e.kind ≡ Memory) }
+{
+    let cert_path = info.cert_path.try_clone(alloc)?;
+    let extensions = info.extensions.try_clone(alloc)?;
+    let ta_title_lang_tag = info.ta_title_lang_tag.try_clone(alloc)?;
+    Ok((cert_path, (extensions, ta_title_lang_tag)))
+}
+
 impl<P: Profile> TryClone for TrustAnchorInfo<P> {
     fn try_clone(&self, alloc: Global) -> Result<TrustAnchorInfo<P>, Error> {
+        let (version, (pub_key, (key_id, ta_title))) = clone_front(alloc, self)?;
+        let (cert_path, (extensions, ta_title_lang_tag)) = clone_behind(alloc, self)?;
         Ok(TrustAnchorInfo {
-            version: self.version,
-            pub_key: self.pub_key.try_clone(alloc)?,
-            key_id: self.key_id.try_clone(alloc)?,
-            ta_title: self.ta_title.try_clone(alloc)?,
-            cert_path: self.cert_path.try_clone(alloc)?,
-            extensions: self.extensions.try_clone(alloc)?,
-            ta_title_lang_tag: self.ta_title_lang_tag.try_clone(alloc)?,
+            version,
+            pub_key,
+            key_id,
+            ta_title,
+            cert_path,
+            extensions,
+            ta_title_lang_tag,
         })
     }
+}
+
+/// Reads the fields up to the title.
+#[inline(always)]
+fn read_front(alloc: Global, rest: &mut &[u8]) -> Result<Front, Error>
+    ensures { GivesBefore result rest.new.now (grammar.trust_anchor_info_front.reading rest.old.now) }
+{
+    let version = read_defaulted::<Version>(alloc, rest)?;
+    let pub_key = read_field::<SubjectPublicKeyInfo>(alloc, rest)?;
+    let key_id = read_field::<OctetString>(alloc, rest)?;
+    let ta_title = read_optional::<Utf8String>(alloc, rest)?;
+    Ok((version, (pub_key, (key_id, ta_title))))
+}
+
+/// Reads the fields behind the title, which end the octets.
+#[tactic(auto, unfolding(x509_der::specs::Frames::fields_reading))]
+#[inline(always)]
+fn read_behind<P: Profile>(alloc: Global, octets: &[u8]) -> Result<Behind<P>, Error>
+    ensures { Gives result (fields_reading (λ behind. behind) (grammar.trust_anchor_info_behind P.serial_check) octets.now) }
+{
+    let mut rest = octets;
+    let cert_path = read_optional::<CertPathControls<P>>(alloc, &mut rest)?;
+    let extensions = read_optional_explicit::<Extensions>(alloc, 1, &mut rest)?;
+    let ta_title_lang_tag = read_optional_implicit::<Utf8String>(alloc, 2, &mut rest)?;
+    end(rest)?;
+    Ok((cert_path, (extensions, ta_title_lang_tag)))
 }
 
 #[tactic(auto, unfolding(crate::specs::TrustAnchorInfo::trust_anchor_info_fields, x509_der::specs::Frames::fields_reading, x509_der::specs::Frames::fields_octets), using(x509_der::specs::FrameWriting::text_in_option, x509_der::specs::FrameWriting::refusal_in_option))]
@@ -95,14 +163,8 @@ impl<P: Profile> Content for TrustAnchorInfo<P> {
 
     fn read_content(alloc: Global, octets: &[u8]) -> Result<TrustAnchorInfo<P>, Error> {
         let mut rest = octets;
-        let version = read_defaulted::<Version>(alloc, &mut rest)?;
-        let pub_key = read_field::<SubjectPublicKeyInfo>(alloc, &mut rest)?;
-        let key_id = read_field::<OctetString>(alloc, &mut rest)?;
-        let ta_title = read_optional::<Utf8String>(alloc, &mut rest)?;
-        let cert_path = read_optional::<CertPathControls<P>>(alloc, &mut rest)?;
-        let extensions = read_optional_explicit::<Extensions>(alloc, 1, &mut rest)?;
-        let ta_title_lang_tag = read_optional_implicit::<Utf8String>(alloc, 2, &mut rest)?;
-        end(rest)?;
+        let (version, (pub_key, (key_id, ta_title))) = read_front(alloc, &mut rest)?;
+        let (cert_path, (extensions, ta_title_lang_tag)) = read_behind::<P>(alloc, rest)?;
         Ok(TrustAnchorInfo {
             version,
             pub_key,

@@ -1,9 +1,13 @@
 //! The part of a certificate that is signed.
 
 ghost use Rattle.std.specs.Option.{option_copied};
-ghost use Rattle.std.specs.Prelude.{◌≡◌, None};
+ghost use Rattle.std.specs.Prelude.{◌≡◌, IfErr, IfOk, None};
+ghost use Rattle.x509_cert.specs.TbsCertificate as grammar;
 ghost use Rattle.x509_cert.specs.declared.certificate.version.Version.TheVariants.{V3};
 ghost use Rattle.x509_cert.specs.Without.{where_any, without_oid};
+ghost use Rattle.x509_der.specs.Frames.{fields_reading};
+ghost use Rattle.x509_der.specs.Outcome.{Gives, GivesBefore};
+ghost use Rattle.x509_der.specs.declared.error.ErrorKind.TheVariants.{Memory};
 ghost use Rattle.x509_ext.specs.Filter.{extensions_left};
 ghost use Rattle.x509_ext.specs.LookUp.{Finds, members, with_oid};
 
@@ -292,21 +296,103 @@ impl<P: Profile> Drop for TbsCertificateInner<P> {
     }
 }
 
+/// The fields up to the validity. Each half of the fields is read and copied by itself: what these functions cost to prove grows with the square of the values
+/// that they may have to let go.
+type Front<P> = (
+    Version,
+    (SerialNumber<P>, (AlgorithmIdentifier, (Name, Validity<P>))),
+);
+
+/// The fields behind it.
+type Behind = (
+    Name,
+    (
+        SubjectPublicKeyInfo,
+        (Option<BitString>, (Option<BitString>, Option<Extensions>)),
+    ),
+);
+
+/// Copies of the fields up to the validity.
+fn clone_front<P: Profile>(alloc: Global, part: &TbsCertificateInner<P>) -> Result<Front<P>, Error>
+    ensures ok { IfOk result (λ copies. copies ≡ (part.now.version, (part.now.serial_number, (part.now.signature, (part.now.issuer, part.now.validity))))) }
+    ensures err { IfErr result (λ e. e.kind ≡ Memory) }
+{
+    let serial_number = part.serial_number.try_clone(alloc)?;
+    let signature = part.signature.try_clone(alloc)?;
+    let issuer = part.issuer.try_clone(alloc)?;
+    Ok((
+        part.version,
+        (serial_number, (signature, (issuer, part.validity))),
+    ))
+}
+
+/// Copies of the fields behind it.
+fn clone_behind<P: Profile>(alloc: Global, part: &TbsCertificateInner<P>) -> Result<Behind, Error>
+    ensures ok { IfOk result (λ copies. copies ≡ (part.now.subject, (part.now.subject_public_key_info, (part.now.issuer_unique_id, (part.now.subject_unique_id, part.now.extensions))))) }
+    ensures err { IfErr result (λ e. e.kind ≡ Memory) }
+{
+    let subject = part.subject.try_clone(alloc)?;
+    let key = part.subject_public_key_info.try_clone(alloc)?;
+    let issuer_unique_id = part.issuer_unique_id.try_clone(alloc)?;
+    let subject_unique_id = part.subject_unique_id.try_clone(alloc)?;
+    let extensions = part.extensions.try_clone(alloc)?;
+    Ok((
+        subject,
+        (key, (issuer_unique_id, (subject_unique_id, extensions))),
+    ))
+}
+
 impl<P: Profile> TryClone for TbsCertificateInner<P> {
     fn try_clone(&self, alloc: Global) -> Result<TbsCertificateInner<P>, Error> {
+        let (version, (serial_number, (signature, (issuer, validity)))) = clone_front(alloc, self)?;
+        let (subject, (key, (issuer_unique_id, (subject_unique_id, extensions)))) = clone_behind(
+            alloc, self,
+        )?;
         Ok(TbsCertificateInner {
-            version: self.version,
-            serial_number: self.serial_number.try_clone(alloc)?,
-            signature: self.signature.try_clone(alloc)?,
-            issuer: self.issuer.try_clone(alloc)?,
-            validity: self.validity,
-            subject: self.subject.try_clone(alloc)?,
-            subject_public_key_info: self.subject_public_key_info.try_clone(alloc)?,
-            issuer_unique_id: self.issuer_unique_id.try_clone(alloc)?,
-            subject_unique_id: self.subject_unique_id.try_clone(alloc)?,
-            extensions: self.extensions.try_clone(alloc)?,
+            version,
+            serial_number,
+            signature,
+            issuer,
+            validity,
+            subject,
+            subject_public_key_info: key,
+            issuer_unique_id,
+            subject_unique_id,
+            extensions,
         })
     }
+}
+
+/// Reads the fields up to the validity.
+#[inline(always)]
+fn read_front<P: Profile>(alloc: Global, rest: &mut &[u8]) -> Result<Front<P>, Error>
+    ensures { GivesBefore result rest.new.now ((grammar.tbs_certificate_front P.serial_check).reading rest.old.now) }
+{
+    let version = read_defaulted_explicit::<Version>(alloc, 0, rest)?;
+    let serial_number = read_field::<SerialNumber<P>>(alloc, rest)?;
+    let signature = read_field::<AlgorithmIdentifier>(alloc, rest)?;
+    let issuer = read_field::<Name>(alloc, rest)?;
+    let validity = read_field::<Validity<P>>(alloc, rest)?;
+    Ok((version, (serial_number, (signature, (issuer, validity)))))
+}
+
+/// Reads the fields behind the validity, which end the octets.
+#[tactic(auto, unfolding(x509_der::specs::Frames::fields_reading))]
+#[inline(always)]
+fn read_behind(alloc: Global, octets: &[u8]) -> Result<Behind, Error>
+    ensures { Gives result (fields_reading (λ behind. behind) grammar.tbs_certificate_behind octets.now) }
+{
+    let mut rest = octets;
+    let subject = read_field::<Name>(alloc, &mut rest)?;
+    let key = read_field::<SubjectPublicKeyInfo>(alloc, &mut rest)?;
+    let issuer_unique_id = read_optional_implicit::<BitString>(alloc, 1, &mut rest)?;
+    let subject_unique_id = read_optional_implicit::<BitString>(alloc, 2, &mut rest)?;
+    let extensions = read_optional_explicit::<Extensions>(alloc, 3, &mut rest)?;
+    end(rest)?;
+    Ok((
+        subject,
+        (key, (issuer_unique_id, (subject_unique_id, extensions))),
+    ))
 }
 
 #[tactic(auto, unfolding(crate::specs::TbsCertificate::tbs_certificate_fields, x509_der::specs::Frames::fields_reading, x509_der::specs::Frames::fields_octets))]
@@ -328,17 +414,12 @@ impl<P: Profile> Content for TbsCertificateInner<P> {
     #[inline(never)]
     fn read_content(alloc: Global, octets: &[u8]) -> Result<TbsCertificateInner<P>, Error> {
         let mut rest = octets;
-        let version = read_defaulted_explicit::<Version>(alloc, 0, &mut rest)?;
-        let serial_number = read_field::<SerialNumber<P>>(alloc, &mut rest)?;
-        let signature = read_field::<AlgorithmIdentifier>(alloc, &mut rest)?;
-        let issuer = read_field::<Name>(alloc, &mut rest)?;
-        let validity = read_field::<Validity<P>>(alloc, &mut rest)?;
-        let subject = read_field::<Name>(alloc, &mut rest)?;
-        let subject_public_key_info = read_field::<SubjectPublicKeyInfo>(alloc, &mut rest)?;
-        let issuer_unique_id = read_optional_implicit::<BitString>(alloc, 1, &mut rest)?;
-        let subject_unique_id = read_optional_implicit::<BitString>(alloc, 2, &mut rest)?;
-        let extensions = read_optional_explicit::<Extensions>(alloc, 3, &mut rest)?;
-        end(rest)?;
+        let (version, (serial_number, (signature, (issuer, validity)))) = read_front::<P>(
+            alloc, &mut rest,
+        )?;
+        let (subject, (key, (issuer_unique_id, (subject_unique_id, extensions)))) = read_behind(
+            alloc, rest,
+        )?;
         Ok(TbsCertificateInner {
             version,
             serial_number,
@@ -346,7 +427,7 @@ impl<P: Profile> Content for TbsCertificateInner<P> {
             issuer,
             validity,
             subject,
-            subject_public_key_info,
+            subject_public_key_info: key,
             issuer_unique_id,
             subject_unique_id,
             extensions,
