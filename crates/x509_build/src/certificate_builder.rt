@@ -55,11 +55,20 @@ use x509_prim::BitString;
 /// let certificate = builder(rt, profile, ABC_KEY)?.build(alloc, &ABC)?;
 /// Ok(certificate.to_der(alloc)?)
 /// ```
-#[derive(Drop)]
 pub struct CertificateBuilder<P> {
     profile: P,
     tbs: TbsCertificate,
     extensions: Extensions,
+}
+
+impl<P: Drop> Drop for CertificateBuilder<P> {
+    fn drop(self) {
+        let CertificateBuilder {
+            profile: _,
+            tbs: _,
+            extensions: _,
+        } = self;
+    }
 }
 
 impl<P: BuilderProfile> CertificateBuilder<P> {
@@ -79,11 +88,11 @@ impl<P: BuilderProfile> CertificateBuilder<P> {
         ensures { Gives (λ builder. builder) (new_builder (P.subject_of profile)
             (P.issuer_of profile) profile serial_number validity subject_public_key_info) result }
     {
-        let subject = profile.get_subject(alloc)?;
-        let issuer = profile.get_issuer(alloc, &subject)?;
         let mut spelled = validity;
         spelled.not_before = Rfc5280::time_encoding(validity.not_before)?;
         spelled.not_after = Rfc5280::time_encoding(validity.not_after)?;
+        let subject = profile.get_subject(alloc)?;
+        let issuer = profile.get_issuer(alloc, &subject)?;
         let tbs = TbsCertificate::from_parts(
             Version::V3,
             serial_number,

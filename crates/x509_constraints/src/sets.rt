@@ -30,7 +30,6 @@ use x509_name::name::{Name, RelativeDistinguishedName};
 /// The name constraints that apply to a certificate: the initial ones, and those of the certificates above it. They are
 /// kept as sorted sets of keys, so that a name is asked by a few searches. To apply n subtrees takes O(n log n) steps or a
 /// logarithm more, whatever sets they come in.
-#[derive(Drop)]
 pub struct ConstraintSets {
     permitted: Vec<Prefixes>,
     excluded: Vec<Prefixes>,
@@ -41,6 +40,20 @@ pub struct ConstraintSets {
     excluding: [bool; FORMS],
     unusable: [bool; FORMS],
     is_whole: bool,
+}
+
+impl Drop for ConstraintSets {
+    fn drop(self) {
+        let ConstraintSets {
+            permitted: _,
+            excluded: _,
+            marks: _,
+            constrained: _,
+            excluding: _,
+            unusable: _,
+            is_whole: _,
+        } = self;
+    }
 }
 
 /// The subtrees of a list, which may be absent.

@@ -43,11 +43,20 @@ pub enum PolicyOutcome<'a> {
 }
 
 /// The policies of a path behind some of its certificates.
-#[derive(Drop)]
 pub struct PolicyState<'s, 'a> {
     settings: PolicySettings<'s, 'a>,
     counters: PolicyCounters,
     levels: Vec<Level<'a>>,
+}
+
+impl Drop for PolicyState<'_, '_> {
+    fn drop(self) {
+        let PolicyState {
+            settings: _,
+            counters: _,
+            levels: _,
+        } = self;
+    }
 }
 
 /// Whether a policy is twice in the certificate.

@@ -52,35 +52,35 @@ const TYPES_OF_2: [ObjectIdentifier; 1] = [COUNTRY_NAME];
 fn is_to_64(oid: ObjectIdentifier) -> bool
     ensures { result ≡ values.is_among values.types_to_64 oid }
 {
-    TYPES_TO_64.iter().any(|listed| *listed == oid)
+    TYPES_TO_64.contains(&oid)
 }
 
 #[tactic(auto, unfolding(crate::specs::NameValues::types_to_128, x509_der::specs::Arcs::subidentifier))]
 fn is_to_128(oid: ObjectIdentifier) -> bool
     ensures { result ≡ values.is_among values.types_to_128 oid }
 {
-    TYPES_TO_128.iter().any(|listed| *listed == oid)
+    TYPES_TO_128.contains(&oid)
 }
 
 #[tactic(auto, unfolding(crate::specs::NameValues::types_to_255, x509_der::specs::Arcs::subidentifier))]
 fn is_to_255(oid: ObjectIdentifier) -> bool
     ensures { result ≡ values.is_among values.types_to_255 oid }
 {
-    TYPES_TO_255.iter().any(|listed| *listed == oid)
+    TYPES_TO_255.contains(&oid)
 }
 
 #[tactic(auto, unfolding(crate::specs::NameValues::types_to_32768, x509_der::specs::Arcs::subidentifier))]
 fn is_to_32768(oid: ObjectIdentifier) -> bool
     ensures { result ≡ values.is_among values.types_to_32768 oid }
 {
-    TYPES_TO_32768.iter().any(|listed| *listed == oid)
+    TYPES_TO_32768.contains(&oid)
 }
 
 #[tactic(auto, unfolding(crate::specs::NameValues::types_of_2, x509_der::specs::Arcs::subidentifier))]
 fn is_of_2(oid: ObjectIdentifier) -> bool
     ensures { result ≡ values.is_among values.types_of_2 oid }
 {
-    TYPES_OF_2.iter().any(|listed| *listed == oid)
+    TYPES_OF_2.contains(&oid)
 }
 
 /// The fewest and the most characters of an attribute of this type, where RFC 5280 appendix A.1 says them.

@@ -36,21 +36,21 @@ const DIRECTORY_TYPES: [ObjectIdentifier; 12] = [
 fn is_printable_type(oid: ObjectIdentifier) -> bool
     ensures { result ≡ values.is_among values.printable_types oid }
 {
-    PRINTABLE_TYPES.iter().any(|listed| *listed == oid)
+    PRINTABLE_TYPES.contains(&oid)
 }
 
 #[tactic(auto, unfolding(crate::specs::NameValues::ia5_types, x509_der::specs::Arcs::subidentifier))]
 fn is_ia5_type(oid: ObjectIdentifier) -> bool
     ensures { result ≡ values.is_among values.ia5_types oid }
 {
-    IA5_TYPES.iter().any(|listed| *listed == oid)
+    IA5_TYPES.contains(&oid)
 }
 
 #[tactic(auto, unfolding(crate::specs::NameValues::directory_types, x509_der::specs::Arcs::subidentifier))]
 fn is_directory_type(oid: ObjectIdentifier) -> bool
     ensures { result ≡ values.is_among values.directory_types oid }
 {
-    DIRECTORY_TYPES.iter().any(|listed| *listed == oid)
+    DIRECTORY_TYPES.contains(&oid)
 }
 
 /// A string type in which an attribute of a name is made. TeletexString is read alone: RFC 5280 4.1.2.4 wants no new

@@ -27,7 +27,7 @@ const CA_TYPES: [ObjectIdentifier; 7] = [
 fn is_ca_type(oid: ObjectIdentifier) -> bool
     ensures { result ≡ is_ca_type oid }
 {
-    CA_TYPES.iter().any(|listed| *listed == oid)
+    CA_TYPES.contains(&oid)
 }
 
 /// Whether the types of attributes that such a name has to have are there.

@@ -74,7 +74,6 @@ impl TryClone for TpmVersion {
 ///
 /// Its certificates have these extensions, in this order: AKI of the issuer's key; KeyUsage with digitalSignature; SAN
 /// where names were given.
-#[derive(Drop)]
 pub struct DevId {
     /// The issuer of the certificate.
     pub issuer: Name,
@@ -82,6 +81,16 @@ pub struct DevId {
     subject: Name,
 
     subject_alt_name: Option<SubjectAltName>,
+}
+
+impl Drop for DevId {
+    fn drop(self) {
+        let DevId {
+            issuer: _,
+            subject: _,
+            subject_alt_name: _,
+        } = self;
+    }
 }
 
 /// The first name whose OID says that it is the name of a hardware module.

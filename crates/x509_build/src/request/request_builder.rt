@@ -31,11 +31,20 @@ use x509_prim::BitString;
 ///
 /// The signed part holds the signer's key, the attributes that were added, and one more, which asks for the extensions
 /// that were added (RFC 2985 5.4.2). That one stands there where no extension was added too.
-#[derive(Drop)]
 pub struct RequestBuilder {
     info: CertReqInfo,
     attributes: Attributes,
     extension_req: ExtensionReq,
+}
+
+impl Drop for RequestBuilder {
+    fn drop(self) {
+        let RequestBuilder {
+            info: _,
+            attributes: _,
+            extension_req: _,
+        } = self;
+    }
 }
 
 impl RequestBuilder {

@@ -103,7 +103,7 @@ impl BuilderProfile for Subordinate {
 
 /// What was validated of a subscriber (Baseline Requirements 7.1.2.7). Only for a domain validated one the subject is
 /// known here.
-#[derive(Debug, Drop, PartialEq, Eq)]
+#[derive(Debug, PartialEq, Eq)]
 pub enum CertificateType {
     /// Control of the domains alone.
     DomainValidated(DomainValidated),
@@ -116,6 +116,17 @@ pub enum CertificateType {
 
     /// An organization, under the extended validation guidelines.
     ExtendedValidation,
+}
+
+impl Drop for CertificateType {
+    fn drop(self) {
+        match self {
+            CertificateType::DomainValidated(_) => {}
+            CertificateType::IndividualValidated => {}
+            CertificateType::OrganizationValidated => {}
+            CertificateType::ExtendedValidation => {}
+        }
+    }
 }
 
 /// A subscriber of whom only control of the domains was validated (Baseline Requirements 7.1.2.7.2).
@@ -252,7 +263,6 @@ impl Default for Tls12Options {
 /// and with clientAuth where asked for; BasicConstraints of an end entity; KeyUsage with digitalSignature, for an RSA
 /// key also with dataEncipherment and keyEncipherment where these are enabled, for an elliptic curve key also with
 /// keyAgreement where that is enabled. The SAN is left to the caller.
-#[derive(Drop)]
 pub struct Subscriber {
     /// What was validated of the subscriber.
     pub certificate_type: CertificateType,
@@ -268,6 +278,18 @@ pub struct Subscriber {
 
     /// Whether an RSA key may encipher data.
     pub enable_data_encipherment: bool,
+}
+
+impl Drop for Subscriber {
+    fn drop(self) {
+        let Subscriber {
+            certificate_type: _,
+            issuer: _,
+            client_auth: _,
+            tls12_options: _,
+            enable_data_encipherment: _,
+        } = self;
+    }
 }
 
 impl Subscriber {
