@@ -80,23 +80,24 @@ fn with_each_signer(rt: HostRuntime) {
 
 #[test]
 fn before_any_finalize(rt: HostRuntime) -> std::result::Result<(), Fail> {
-    let certificate = current(&rt, certificates::picky(&rt)?);
-    assert!(rt; is_answer(&rt, certificate, certificates::AS_MADE, ""));
-    let request = current(&rt, requests::full(&rt)?);
-    assert!(rt; is_answer(&rt, request, requests::AS_MADE, ""));
-    let list = current(&rt, lists::with_none(&rt)?);
-    assert!(rt; is_answer(&rt, list, lists::AS_MADE, ""));
+    let made = current(&rt, certificates::picky(&rt)?);
+    let certificate = is_answer(&rt, made, certificates::AS_MADE, "");
+    let made = current(&rt, requests::full(&rt)?);
+    let request = is_answer(&rt, made, requests::AS_MADE, "");
+    let made = current(&rt, lists::with_none(&rt)?);
+    let list = is_answer(&rt, made, lists::AS_MADE, "");
+    assert!(rt; [certificate, request, list] == [true; 3]);
     Ok(())
 }
 
 /// Whether, once the builder was asked for its part, the current one is `done`, or where that was refused the one `before`.
 fn leaves<T: Encode + Drop, B: Builder<Output = T>>(
     rt: &HostRuntime,
-    builder: B,
+    builder: Result<B>,
     done: &[u8],
     before: &[u8],
 ) -> Result<bool> {
-    let mut asked = builder;
+    let mut asked = builder?;
     let wanted = match asked.finalize(rt.alloc(), &ABC) {
         Ok(_) => done,
         Err(_) => before,
@@ -107,26 +108,23 @@ fn leaves<T: Encode + Drop, B: Builder<Output = T>>(
 // Run where each allocation is refused in turn, too.
 #[test]
 fn refused_memory_leaves_the_part(rt: HostRuntime) -> std::result::Result<(), Fail> {
-    let certificate = certificates::picky(&rt)?;
-    assert!(rt;
-        leaves(
-            &rt,
-            certificate,
-            certificates::UNSIGNED,
-            certificates::AS_MADE
-        )?
-    );
-    let request = requests::builder(&rt)?;
-    assert!(rt; leaves(&rt, request, requests::UNSIGNED, requests::AS_MADE)?);
-    let list = lists::builder(&rt)?;
-    assert!(rt; leaves(&rt, list, lists::UNSIGNED, lists::AS_MADE)?);
+    let made = certificates::picky(&rt);
+    let certificate = leaves(&rt, made, certificates::UNSIGNED, certificates::AS_MADE)?;
+    let made = requests::builder(&rt);
+    let request = leaves(&rt, made, requests::UNSIGNED, requests::AS_MADE)?;
+    let made = lists::builder(&rt);
+    let list = leaves(&rt, made, lists::UNSIGNED, lists::AS_MADE)?;
+    assert!(rt; [certificate, request, list] == [true; 3]);
     Ok(())
 }
 
 #[test]
 fn errors_of_signers(rt: HostRuntime) {
     let key = Error::PublicKey(KeyError::Memory);
-    assert!(rt; prints(&rt, &key, "public key error: Memory"));
     let signature = Error::Signature(SignError::Memory);
-    assert!(rt; prints(&rt, &signature, "signature error: Memory"));
+    let answers = [
+        prints(&rt, &key, "public key error: Memory"),
+        prints(&rt, &signature, "signature error: Memory"),
+    ];
+    assert!(rt; answers == [true; 2]);
 }

@@ -74,6 +74,9 @@ where
 /// The identifiers of modules by their versions (Trusted Computing Group): 2.23.133.1.0 and 2.23.133.1.2.
 #[test]
 fn identifiers(rt: HostRuntime) {
-    assert!(rt; devid::tcgtpm::TCG_SV_TPM_12.as_bytes() == b"\x67\x81\x05\x01\x00".as_slice());
-    assert!(rt; devid::tcgtpm::TCG_SV_TPM_20.as_bytes() == b"\x67\x81\x05\x01\x02".as_slice());
+    let answers = [
+        devid::tcgtpm::TCG_SV_TPM_12.as_bytes() == b"\x67\x81\x05\x01\x00".as_slice(),
+        devid::tcgtpm::TCG_SV_TPM_20.as_bytes() == b"\x67\x81\x05\x01\x02".as_slice(),
+    ];
+    assert!(rt; answers == [true; 2]);
 }

@@ -39,11 +39,21 @@ pub struct SignedTimestamp {
 
 /// The SCTs of a certificate, and the entry that a log has of its precertificate (RFC 6962 3.2, 3.3). The certificate is cut and its
 /// issuer's key hashed once, for all SCTs.
-#[derive(Debug, Drop)]
+#[derive(Debug)]
 pub struct EmbeddedTimestamps {
     tbs_certificate: Vec<u8>,
     issuer_key_hash: [u8; 32],
     timestamps: Vec<SerializedSct>,
+}
+
+impl Drop for EmbeddedTimestamps {
+    fn drop(self) {
+        let EmbeddedTimestamps {
+            tbs_certificate: _,
+            issuer_key_hash: _,
+            timestamps: _,
+        } = self;
+    }
 }
 
 /// The timestamps that the octets of the list are.

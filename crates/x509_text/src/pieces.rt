@@ -26,13 +26,23 @@ enum Stage {
 
 /// The document of a CRL, which comes piece by piece. Of the entries it has the encoding alone, and decodes one at a time, so that
 /// neither the entries of a long CRL nor their lines stand in memory at once.
-#[derive(Drop)]
 pub struct CrlPieces<'a> {
     style: Style,
     stage: Stage,
     crl: CertificateList<Raw>,
     octets: &'a [u8],
     ghost are_entries: { IsOk (read_entries octets.now) },
+}
+
+impl Drop for CrlPieces<'_> {
+    fn drop(self) {
+        let CrlPieces {
+            style: _,
+            stage: _,
+            crl: _,
+            octets: _,
+        } = self;
+    }
 }
 
 /// A document.
