@@ -1,0 +1,4 @@
+pub mod Passing
+pub mod Members
+pub mod Pieces
+pub mod Wholes

@@ -1,0 +1,4 @@
+pub mod Fields
+pub mod Unread
+pub mod Objects
+pub mod Words
