@@ -1,4 +1,5 @@
 pub mod Passing
 pub mod Members
 pub mod Pieces
+pub mod Tables
 pub mod Wholes

@@ -41,6 +41,9 @@ unread kind bytes = if nat_lt limit (length bytes) then Some (unread_place (whol
 abbrev pub refusal_of : Kind → Place → Refusal
 refusal_of kind place = record { kind = kind; place = place }
 
+abbrev pub refusal_as : Kind → List ℕ → Option Refusal
+refusal_as kind bytes = option_map (refusal_of kind) (unread kind bytes)
+
 -- of two that with the greater offset; of equals the first
 abbrev pub farther : Refusal → Refusal → Refusal
 farther first second = if nat_lt first.place.offset second.place.offset then second else first

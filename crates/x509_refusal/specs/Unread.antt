@@ -103,6 +103,10 @@ abbrev pub unread_from : Field → ℕ → List Field → List ℕ → Option Pl
 unread_from whole end [] octets = unread_behind whole end octets
 unread_from whole end (field ∷ others) octets = unread_at field (end - length octets) (unread_from whole end others) (behind field octets)
 
+-- all fields of a field are read, one behind the other, and nothing stands behind them
+abbrev pub AreRead : Field → List ℕ → Type 0
+AreRead field octets = (end : ℕ) → unread_from field end (fields_of field) octets ≡ None
+
 -- the first of the members that can't be read, up to the end of the octets, at most n
 unfoldable pub unread_members_at : ℕ → Field → ℕ → List ℕ → Option Place
 unread_members_at n member end [] = None

@@ -1,5 +1,5 @@
 -- Where bytes stop being an object, in words.
-use Rattle.std.specs.Prelude.{ℕ, Bool, true, false, List, ◌++◌, codes}
+use Rattle.std.specs.Prelude.{ℕ, Bool, true, false, List, ◌++◌, Option, Some, None, codes}
 use Rattle.std.specs.Fmt.{decimal}
 use Rattle.x509_refusal.specs.Fields.{field_text}
 use Rattle.x509_refusal.specs.declared.place.Kind.{Kind}
@@ -19,3 +19,8 @@ place_text false path offset kind = path ++ (codes ", at offset " ++ (decimal of
 
 abbrev pub refusal_text : Refusal → List ℕ
 refusal_text refusal = place_text refusal.place.is_behind (field_text refusal.place.field) refusal.place.offset (kind_text refusal.kind)
+
+-- what in bytes is wrong, where it is known where they stop being an object, or isn't
+abbrev pub wrong_text : Option Refusal → List ℕ
+wrong_text (Some refusal) = refusal_text refusal
+wrong_text None = codes "something in it is wrong"

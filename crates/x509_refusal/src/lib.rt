@@ -5,11 +5,12 @@
 #![tactic(auto)]
 
 mod field;
+pub mod laws;
 mod pass;
 mod place;
 mod walk;
 mod words;
 
 pub use field::Field;
-pub use place::{Kind, Place, Refusal, farthest, first_unread};
-pub use words::refusal_words;
+pub use place::{Kind, Place, Refusal, farthest, first_unread, refusal_as};
+pub use words::{refusal_words, wrong_words};

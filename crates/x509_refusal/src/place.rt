@@ -1,7 +1,7 @@
 //! Where bytes stop being an object.
 
 ghost use Rattle.std.specs.Prelude.{◌≡◌, ◌≤◌, ◌↔◌, IfSome, IsNone, length};
-ghost use Rattle.x509_refusal.specs.Objects.{IsObject, farther, farthest, refusal_of, unread, whole_of};
+ghost use Rattle.x509_refusal.specs.Objects.{IsObject, farther, farthest, refusal_as, unread, whole_of};
 ghost use Rattle.x509_refusal.specs.Unread.{behind_place, unread_place};
 
 use crate::field::Field;
@@ -95,6 +95,16 @@ pub fn first_unread(kind: Kind, bytes: &[u8]) -> Option<Place>
     }
     match unread_from(whole, &[whole], bytes.len(), bytes) {
         Some(place) => Some(closest(bytes, place)),
+        None => None,
+    }
+}
+
+/// As [`first_unread`], with the kind.
+pub fn refusal_as(kind: Kind, bytes: &[u8]) -> Option<Refusal>
+    ensures { result ≡ refusal_as kind bytes.now }
+{
+    match first_unread(kind, bytes) {
+        Some(place) => Some(Refusal { kind, place }),
         None => None,
     }
 }

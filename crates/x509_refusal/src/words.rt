@@ -1,7 +1,7 @@
 //! Where bytes stop being an object, in words.
 
 ghost use Rattle.std.specs.Prelude.{◌≡◌, IfOk, false, string_bytes, true};
-ghost use Rattle.x509_refusal.specs.Words.{kind_text, place_text, refusal_text};
+ghost use Rattle.x509_refusal.specs.Words.{kind_text, place_text, refusal_text, wrong_text};
 
 use crate::place::{Kind, Refusal};
 use std::alloc::{AllocError, Global};
@@ -48,5 +48,19 @@ pub fn refusal_words(alloc: Global, refusal: Refusal) -> Result<String, AllocErr
         behind_words(alloc, path, offset, kind)
     } else {
         unread_words(alloc, path, offset, kind)
+    }
+}
+
+/// What in bytes is wrong, in words, where it is known where they stop being an object, or isn't.
+///
+/// # Errors
+///
+/// `AllocError` when out of memory.
+pub fn wrong_words(alloc: Global, refusal: Option<Refusal>) -> Result<String, AllocError>
+    ensures { IfOk result (λ text. string_bytes text ≡ wrong_text refusal) }
+{
+    match refusal {
+        Some(refusal) => refusal_words(alloc, refusal),
+        None => String::from_str(alloc, "something in it is wrong"),
     }
 }
