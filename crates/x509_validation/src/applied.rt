@@ -5,13 +5,18 @@ use x509_constraints::ConstraintSets;
 use x509_ext::pkix::NameConstraints;
 
 /// The name constraints that apply, and whether there are any.
-#[derive(Drop)]
 pub(crate) struct Applied {
     /// The constraints.
     pub(crate) sets: ConstraintSets,
 
     /// Whether there are any.
     pub(crate) is_any: bool,
+}
+
+impl Drop for Applied {
+    fn drop(self) {
+        let Applied { sets: _, is_any: _ } = self;
+    }
 }
 
 impl Applied {

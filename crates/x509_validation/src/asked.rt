@@ -34,7 +34,6 @@ pub(crate) struct Uses {
 }
 
 /// What is asked of a certificate.
-#[derive(Drop)]
 pub(crate) struct Asked<'a> {
     /// The name constraints that apply.
     pub(crate) names: Applied,
@@ -44,6 +43,16 @@ pub(crate) struct Asked<'a> {
 
     /// What is asked of the uses of keys, and of common names.
     pub(crate) uses: Uses,
+}
+
+impl Drop for Asked<'_> {
+    fn drop(self) {
+        let Asked {
+            names: _,
+            purposes: _,
+            uses: _,
+        } = self;
+    }
 }
 
 /// The purposes of which one is asked for, where one is.

@@ -30,7 +30,6 @@ pub(crate) const NO_FLAGS: AnchorFlags = AnchorFlags {
 };
 
 /// For which paths something is trusted.
-#[derive(Drop)]
 pub(crate) struct Limits {
     /// The names that certificates may have; any where absent.
     pub(crate) constraints: Option<NameConstraints>,
@@ -43,6 +42,17 @@ pub(crate) struct Limits {
 
     /// The flags about policies.
     pub(crate) flags: AnchorFlags,
+}
+
+impl Drop for Limits {
+    fn drop(self) {
+        let Limits {
+            constraints: _,
+            max_path_length: _,
+            policies: _,
+            flags: _,
+        } = self;
+    }
 }
 
 /// The path length, if there is one.

@@ -39,7 +39,6 @@ use x509_policy::{
 };
 
 /// What a certificate says of policies, lent from its bytes.
-#[derive(Drop)]
 pub(crate) struct Said<'a> {
     /// The policies of its CertificatePolicies.
     policies: Option<Vec<&'a [u8]>>,
@@ -55,6 +54,18 @@ pub(crate) struct Said<'a> {
 
     /// Whether its subject matches its issuer.
     pub(crate) is_self_issued: bool,
+}
+
+impl Drop for Said<'_> {
+    fn drop(self) {
+        let Said {
+            policies: _,
+            mappings: _,
+            constraints: _,
+            inhibit: _,
+            is_self_issued: _,
+        } = self;
+    }
 }
 
 /// The OIDs of the policies of which these are the octets, without qualifiers.

@@ -31,7 +31,7 @@ use x509_policy::AnchorFlags;
 use x509_prim::OctetString;
 
 /// What is trusted, owned: that of a trust anchor (RFC 5914), of which not every part can be lent.
-#[derive(Debug, Drop)]
+#[derive(Debug)]
 pub struct TrustedBuf {
     name: Vec<u8>,
     key: Vec<u8>,
@@ -39,6 +39,19 @@ pub struct TrustedBuf {
     max_path_length: Option<u32>,
     policies: Option<Vec<u8>>,
     policy_flags: AnchorFlags,
+}
+
+impl Drop for TrustedBuf {
+    fn drop(self) {
+        let TrustedBuf {
+            name: _,
+            key: _,
+            name_constraints: _,
+            max_path_length: _,
+            policies: _,
+            policy_flags: _,
+        } = self;
+    }
 }
 
 /// Whether the key identifier of the signed part is that one, if it has one.
