@@ -12,7 +12,7 @@ import tempfile
 import tomllib
 
 sys.path.insert(0, str(pathlib.Path(__file__).resolve().parents[1]))
-from common.der import context, integer, object_identifier, octet_string, sequence, set_of
+from common.der import context, header_len, integer, object_identifier, octet_string, sequence, set_of
 
 TOP = pathlib.Path(__file__).resolve().parents[2]
 DATA, SIGNED_DATA = object_identifier(1, 2, 840, 113549, 1, 7, 1), object_identifier(1, 2, 840, 113549, 1, 7, 2)
@@ -31,16 +31,30 @@ PEM_OF_NOTHING = b"-----BEGIN CERTIFICATE-----\nMAA=\n-----END CERTIFICATE-----\
 NO_ELEMENT = "; it doesn't begin with an element of DER"
 UNFINISHED = "; it begins as a SEQUENCE does, but its length isn't DER, or goes beyond the end"
 NO_SEQUENCE = "; the element that it begins with is no SEQUENCE"
-WHOLE = "; its SEQUENCE is whole, but something in it is wrong"
+WHOLE = "; its SEQUENCE is whole, but "
+
+
+def unread(path, offset, kind="a certificate"):
+    """What is told of a whole SEQUENCE of which a field can't be read."""
+    return f"{WHOLE}{path}, at offset {offset}, isn't what {kind} has there"
+
+
+def unended(path, offset, kind="a certificate"):
+    """What is told of a whole SEQUENCE of which a field has octets behind its last one."""
+    return f"{WHOLE}behind the last field of {path}, at offset {offset}, stand octets that {kind} hasn't there"
+
+
+# the empty SEQUENCE
+NOTHING = unread("tbsCertificate", 2)
 GARBAGE = {
-    PEM_OF_NOTHING: WHOLE,
+    PEM_OF_NOTHING: NOTHING,
     b"-----BEGIN ": "; it begins as PEM does, but no whole line of it begins an object",
     b"-----BEGIN": NO_ELEMENT,
     b"\xff" * 40: NO_ELEMENT,
     b"\x30\x80\0\0": UNFINISHED,
     b"\x30\x05\x02\x01\x01": UNFINISHED,
     b"\x02\x01\x01": NO_SEQUENCE,
-    b"\x30\x03\x02\x01\x01": WHOLE,
+    b"\x30\x03\x02\x01\x01": unread("tbsCertificate", 2),
     b"\x30\x03\x02\x01\x01\0\0": "; behind its SEQUENCE, at offset 5, stand octets that don't belong to it: 2",
     b"no certificate\n": NO_ELEMENT,
     b" -----BEGIN CERTIFICATE-----\n": NO_ELEMENT,
@@ -52,15 +66,15 @@ def behind(place, count):
     return f"; behind its SEQUENCE, at offset {place}, stand octets that don't belong to it: {count}"
 
 
-def looks(data):
-    """What is told of DER that is no object of its kind: by the octets of its outer element alone (X.690 8.1)."""
+def looks(data, whole=WHOLE):
+    """What is told of DER that is no object of its kind: by the octets of its outer element alone (X.690 8.1). Of a whole SEQUENCE it is this."""
     digits = data[1] & 127 if data[1] > 127 else 0
     end = 2 + digits + (int.from_bytes(data[2 : 2 + digits], "big") if digits else data[1])
     if data[0] != 0x30:
         return NO_ELEMENT if end > len(data) else NO_SEQUENCE
     if end > len(data):
         return UNFINISHED
-    return behind(end, len(data) - end) if end < len(data) else WHOLE
+    return behind(end, len(data) - end) if end < len(data) else whole
 
 
 def pem_of(data):
@@ -194,7 +208,7 @@ class Program:
         yield "PEM of several objects on standard input", [], b"".join(pem), (max(statuses), texts("standard input"), "")
         found = texts("standard input", 2)
         for name, data, reason in (
-            ("no object", PEM_OF_NOTHING, self.no_object + WHOLE),
+            ("no object", PEM_OF_NOTHING, self.no_object + NOTHING),
             ("an empty object", PEM_OF_NOTHING.replace(b"MAA=\n", b""), f"{self.no_object}; it is empty"),
             ("no base64", PEM_OF_NOTHING.replace(b"MAA=\n", b"MAA\n"), NO_BASE64),
             ("another end", PEM_OF_NOTHING.replace(b"END CERTIFICATE", b"END X"), OTHER_END),
@@ -202,7 +216,7 @@ class Program:
         ):
             said = f"{self.name}: standard input, object 1: {reason}\n"
             yield f"PEM of {name} and several others", [], data + b"".join(pem), (2, found, said)
-        said = "".join(f"{self.name}: standard input, object {at}: {self.no_object}{WHOLE}\n" for at in (1, 2))
+        said = "".join(f"{self.name}: standard input, object {at}: {self.no_object}{NOTHING}\n" for at in (1, 2))
         yield "PEM of twice no object", [], PEM_OF_NOTHING * 2, (2, "", said)
         ends = (b"\n" + b"a comment\n" * 1_800_000).join(pem)
         yield "PEM of more than 16 MiB", [], ends, (max(statuses), texts("standard input"), "")
@@ -248,7 +262,7 @@ class Program:
         objects = [self.objects[0], (b"", "", 2), *self.objects[1:]]
         odd = signed_data(context(0, octets[0], context(3, DATA, sequence()), *octets[1:]))
         yield "a SignedData with a certificate in another form", [], odd, (2, self.numbered(label, objects), said)
-        said = f"{self.name}: {label}, object 2: {self.no_object}{WHOLE}\n"
+        said = f"{self.name}: {label}, object 2: {self.no_object}{unread('tbsCertificate', header_len(len(one)))}\n"
         nested = signed_data(context(0, octets[0], one, *octets[1:]))
         yield "a SignedData in a SignedData", [], nested, (2, self.numbered(label, objects), said)
         for name, data, reason in (
@@ -271,7 +285,9 @@ class Program:
             ("with something behind its content", sequence(SIGNED_DATA, context(0, sequence(integer(1), set_of(), sequence(DATA), context(0, octets[0]), set_of())), integer(1)), WHOLE),
             ("without the type of its content", sequence(integer(1), set_of(), sequence(DATA), context(0, octets[0]), set_of()), WHOLE),
         ):
-            yield f"a SignedData {name}", [], data, self.told(label, self.no_object + reason)
+            # what stands first in it is no SEQUENCE, and so no signed part
+            told = unread("tbsCertificate", header_len(len(data))) if reason == WHOLE else reason
+            yield f"a SignedData {name}", [], data, self.told(label, self.no_object + told)
         within = folder / "signed"
         within.mkdir()
         (within / "one.p7c").write_bytes(one)

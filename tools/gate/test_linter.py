@@ -13,9 +13,9 @@ import tempfile
 
 sys.path.insert(0, str(pathlib.Path(__file__).resolve().parents[1]))
 from common.der import BIT_STRING, BMP_STRING, GENERALIZED_TIME, IA5_STRING, NULL, PRINTABLE_STRING, TELETEX_STRING, TRUE, UTC_TIME, UTF8_STRING, VISIBLE_STRING
-from common.der import bit_string, context, element, integer, object_identifier, octet_string, sequence, set_of
+from common.der import bit_string, context, element, header_len, integer, object_identifier, octet_string, sequence, set_of
 from list_rule_names import rule_names
-from object_runs import NO_ELEMENT, NO_SEQUENCE, PEM_OF_NOTHING, UNFINISHED, WHOLE, Program, behind, counted, ended, looks, pem_of
+from object_runs import NO_ELEMENT, NO_SEQUENCE, NOTHING, PEM_OF_NOTHING, UNFINISHED, WHOLE, Program, behind, counted, ended, looks, pem_of, unended, unread
 
 ENUMERATED, NUMERIC_STRING, UNIVERSAL_STRING = 0x0A, 0x12, 0x1C
 EMAIL_ADDRESS, DOMAIN_COMPONENT = object_identifier(1, 2, 840, 113549, 1, 9, 1), object_identifier(0, 9, 2342, 19200300, 100, 1, 25)
@@ -1509,11 +1509,11 @@ def verbose_json(program):
             result(paths[0], "nothing found"),
             result(paths[1], "refused", reason="no such file"),
             result(f"{paths[2]}, object 1", "nothing found"),
-            result(f"{paths[2]}, object 2", "refused", reason=NO_OBJECT + WHOLE),
+            result(f"{paths[2]}, object 2", "refused", reason=NO_OBJECT + NOTHING, place="tbsCertificate", offset=2),
             told(f"{paths[2]}, object 3", *number),
             result(paths[3], "refused", reason=f"{NO_OBJECT}; it is empty"),
         ]
-        said = [f"{paths[1]}: no such file", f"{paths[2]}, object 2: {NO_OBJECT}{WHOLE}", f"{paths[3]}: {NO_OBJECT}; it is empty"]
+        said = [f"{paths[1]}: no such file", f"{paths[2]}, object 2: {NO_OBJECT}{NOTHING}", f"{paths[3]}: {NO_OBJECT}; it is empty"]
         said = "".join(f"x509_linter: {it}\n" for it in said)
         found = ended(program, ["-v", "--json", *paths])
         yield "several files with -v and --json", found == (2, "".join(lines), said), found
@@ -1523,7 +1523,14 @@ def verbose_json(program):
         found = ended(program, ["-v", "--json", *only, *paths])
         yield "several files with -v, --json and --only", found == (2, "".join(lines), said), found
         found = ended(program, ["-v", "--json", "crl", paths[0]])
-        yield "no CRL, with -v and --json", found[:2] == (2, result(paths[0], "refused", reason=f"not a CRL in DER, PEM or hex{WHOLE}")), found
+        # where the signature of a CRL has to stand stands the version
+        place = "tbsCertList.signature", certificate().index(context(0, integer(2)))
+        said = result(paths[0], "refused", reason=f"not a CRL in DER, PEM or hex{unread(*place, 'a CRL')}", place=place[0], offset=place[1])
+        yield "no CRL, with -v and --json", found[:2] == (2, said), found
+        pathlib.Path(paths[0]).write_bytes(csr())
+        found = ended(program, ["-v", "--json", "anchor", paths[0]])
+        said = result(paths[0], "refused", reason=f"not a trust anchor in DER, PEM or hex{WHOLE}something in it is wrong")
+        yield "no trust anchor, with -v and --json", found[:2] == (2, said), found
     with open("/dev/full", "wb") as full:
         found = ended(program, ["-v", "--json"], certificate(), stdout=full)
         yield "a full output, with -v and --json", found == (2, "", "x509_linter: standard input: the output can't be written\n"), found
@@ -1590,6 +1597,86 @@ def twice(option):
     return f"x509_linter: stands twice: {option}\n"
 
 
+# What is told of objects of other kinds that are no certificates: where the validity has to stand a CRL has its date, and a CSR its subject where the algorithm
+# of the signature has to.
+NO_CERTIFICATE = {
+    "CRL": unread("tbsCertificate.validity", crl().index(utc(b"260102030405Z"))),
+    "CSR": unread("tbsCertificate.signature", csr().index(SUBJECT)),
+    "trust anchor": looks(anchor()),
+}
+
+
+def wrong_certificates():
+    """Certificates of which a field can't be read: for each a name, its bytes, the path of the field, and its octets, which stand in it once."""
+    version, date = context(0, integer(3)), utc(b"2601020304Z")
+    yield "version 4", certificate(version=version), "tbsCertificate.version", version
+    yield "version 1, encoded", certificate(version=context(0, integer(0))), "tbsCertificate.version", context(0, integer(0))
+    number = element(2, b"\0\x01")
+    yield "a serial number with a zero in front", certificate(serial=number), "tbsCertificate.serialNumber", number
+    yield "a UTCTime without seconds", certificate(dates=sequence(date, utc(b"270102030405Z"))), "tbsCertificate.validity.notBefore", date
+    yield "a second UTCTime without seconds", certificate(dates=sequence(utc(b"260102030405Z"), date)), "tbsCertificate.validity.notAfter", date
+    yield "a validity without dates", certificate(dates=octet_string(b"none")), "tbsCertificate.validity", octet_string(b"none")
+    name = sequence(sequence(object_identifier(2, 5, 4, 3), element(UTF8_STRING, b"no SET")))
+    yield "an issuer without sets", certificate(issuer=name), "tbsCertificate.issuer", name
+    yield "a subject without sets", certificate(subject=name), "tbsCertificate.subject", name
+    key = sequence(EC_P256, octet_string(bytes(65)))
+    yield "a key that is no BIT STRING", certificate(key=key), "tbsCertificate.subjectPublicKeyInfo", key
+    unique = implicit(1, b"\x08\xff")
+    yield "a unique identifier of 8 unused bits", certificate(unique=unique), "tbsCertificate.issuerUniqueID", unique
+    no_bits = implicit(2)
+    yield "another without content", certificate(unique=implicit(1, b"\0\xff") + no_bits), "tbsCertificate.subjectUniqueID", no_bits
+    false = sequence(object_identifier(1, 2, 3), b"\x01\x01\0", octet_string(NULL))
+    yield "a FALSE that is encoded", leaf_with(OTHER, false, CA_BC), "tbsCertificate.extensions", false
+    true = sequence(object_identifier(1, 2, 3), b"\x01\x01\x01", octet_string(NULL))
+    yield "a TRUE that isn't FF", certificate(extensions=(true, *LEAF)), "tbsCertificate.extensions", true
+    outer = sequence(ECDSA_SHA256)
+    yield "an algorithm without OID", certificate(outer=outer), "signatureAlgorithm", outer
+
+
+def wrong_fields():
+    """Objects of which a field can't be read: for each a name, its bytes, and what is told of it."""
+    for name, data, path, octets in wrong_certificates():
+        yield name, data, unread(path, data.index(octets))
+    part, head = tbs_certificate(), sequence(b"")
+    yield "an octet behind the last field of the signed part", *ended_by(sequence(part[header_len(len(part)) :], b"\0"), "tbsCertificate")
+    yield "an element behind it", *ended_by(sequence(part[header_len(len(part)) :], context(4, NULL)), "tbsCertificate", len(context(4, NULL)))
+    data = sequence(part, ECDSA_SHA256, SIGNATURE, NULL)
+    yield "an element behind the signature", data, unended("Certificate", len(data) - len(NULL))
+    data = sequence(part, ECDSA_SHA256)
+    yield "no signature", data, unread("signatureValue", len(data))
+    data = sequence(part, ECDSA_SHA256, octet_string(SIGNATURE))
+    yield "a signature that is no BIT STRING", data, unread("signatureValue", len(data) - len(octet_string(SIGNATURE)))
+    data = certificate(dates=sequence(utc(b"260102030405Z"), utc(b"270102030405Z"), head))
+    yield "a validity of three elements", data, unended("tbsCertificate.validity", data.index(utc(b"270102030405Z") + head) + len(utc(b"270102030405Z")))
+
+
+def wrong_lists_and_requests():
+    """CRLs and CSRs of which a field can't be read, as `wrong_fields`."""
+    date, entry, false = utc(b"2602020304Z"), sequence(integer(9), utc(b"2601010000Z")), sequence(object_identifier(1, 2, 3), b"\x01\x01\0", octet_string(NULL))
+    for name, data, path, octets in (
+        ("a CRL with a UTCTime without seconds", crl(next_update=date), "nextUpdate", date),
+        ("a CRL with another", crl(this_update=date), "thisUpdate", date),
+        ("a CRL with an entry of such a date", crl(entries=sequence(ENTRY, entry, ENTRY)), "revokedCertificates", entry),
+        ("a CRL with a FALSE that is encoded", crl(extensions=(CRL_AKI, false)), "crlExtensions", false),
+    ):
+        yield name, data, unread(f"tbsCertList.{path}", data.index(octets), "a CRL")
+    data = crl(extensions=None, entries=sequence(ENTRY) + b"\0")
+    yield "a CRL with an octet behind its entries", data, unended("tbsCertList", data.index(sequence(ENTRY) + b"\0") + len(sequence(ENTRY)), "a CRL")
+    attribute = sequence(integer(1), set_of(NULL))
+    data = csr(attributes=(attribute,))
+    yield "a CSR with an attribute without OID", data, unread("certificationRequestInfo.attributes", data.index(context(0, attribute)), "a CSR")
+    data = sequence(sequence(integer(0), SUBJECT, KEY, context(0), NULL), ECDSA_SHA256, SIGNATURE)
+    yield "a CSR with an element behind its attributes", data, unended("certificationRequestInfo", data.index(context(0) + NULL) + len(context(0)), "a CSR")
+    data = sequence(sequence(integer(0), SUBJECT, KEY, context(0)), ECDSA_SHA256, octet_string(SIGNATURE))
+    yield "a CSR with a signature that is no BIT STRING", data, unread("signature", len(data) - len(octet_string(SIGNATURE)), "a CSR")
+
+
+def ended_by(part, path, count=1):
+    """A certificate of a signed part that ends with so many octets that don't belong to it, and what is told of it."""
+    data = sequence(part, ECDSA_SHA256, SIGNATURE)
+    return data, unended(path, data.index(part) + len(part) - count)
+
+
 def refused(program):
     """For each run over what is no object a name, whether it ended as stated, and how it ended."""
     odd = certificate(serial=integer(0))
@@ -1600,20 +1687,39 @@ def refused(program):
         ("an octet too many", odd + b"\0", behind(len(odd), 1)),
         ("a line feed behind DER", odd + b"\n", behind(len(odd), 1)),
         ("an element of another type", octet_string(odd), NO_SEQUENCE),
-        ("version 4", certificate(version=context(0, integer(3))), WHOLE),
-        ("a UTCTime without seconds", certificate(dates=sequence(utc(b"2601020304Z"), utc(b"270102030405Z"))), WHOLE),
+        *wrong_fields(),
     ):
         found = ended(program, [], data)
         yield name, found == (2, "", f"x509_linter: standard input: {NO_OBJECT}{told}\n"), found
+    for name, data, told in (*wrong_fields(), *wrong_lists_and_requests()):
+        kind = next(it for it, what in KINDS.items() if what in told)
+        found = ended(program, [kind], data)
+        yield f"{name}, by its word", found == (2, "", f"x509_linter: standard input: not {KINDS[kind]} in DER, PEM or hex{told}\n"), found
+    # what is told without a word is what gets farthest: of a CRL it is the certificate up to its first date
+    data = crl(next_update=utc(b"2602020304Z"))
+    found = ended(program, [], data)
+    told = unread("tbsCertList.nextUpdate", data.index(utc(b"2602020304Z")), "a CRL")
+    yield "a CRL with a date without seconds", found == (2, "", f"x509_linter: standard input: {NO_OBJECT}{told}\n"), found
+    data = crl(this_update=utc(b"2602020304Z"))
+    found = ended(program, [], data)
+    told = unread("tbsCertificate.validity", data.index(utc(b"2602020304Z")))
+    yield "a CRL with a first date without seconds", found == (2, "", f"x509_linter: standard input: {NO_OBJECT}{told}\n"), found
     for words, option in ((["-v", "-v"], "-v"), (["--json", "--json"], "--json"), (["-v", "--json", "-v"], "-v"), (["--json", "-v", "-v", "--json"], "--json")):
         found = ended(program, words, odd)
         yield f"the words {words}", found == (2, "", twice(option) + USAGE), found
     for words, option in ((["-vv"], "-vv"), (["-v", "-x", "--only=a"], "-x"), (["a\nb", "-a\nb"], "(a word with control characters)")):
         found = ended(program, words, odd)
         yield f"the words {words}", found == (2, "", no_option(option) + USAGE), found
-    for kind, data in (("certificate", crl()), ("crl", csr()), ("csr", anchor()), ("anchor", csr())):
+    for kind, data, told in (
+        ("certificate", crl(), NO_CERTIFICATE["CRL"]),
+        ("certificate", csr(), NO_CERTIFICATE["CSR"]),
+        ("crl", csr(), unread("tbsCertList.signature", csr().index(SUBJECT), "a CRL")),
+        ("csr", crl(), unread("certificationRequestInfo.version", crl().index(integer(1)), "a CSR")),
+        ("csr", anchor(), looks(anchor())),
+        ("anchor", csr(), f"{WHOLE}something in it is wrong"),
+    ):
         found = ended(program, [kind], data)
-        yield f"no {kind}", found == (2, "", f"x509_linter: standard input: not {KINDS[kind]} in DER, PEM or hex{looks(data)}\n"), found
+        yield f"no {kind}", found == (2, "", f"x509_linter: standard input: not {KINDS[kind]} in DER, PEM or hex{told}\n"), found
 
 
 # what certificate() breaks of the Baseline Requirements, with the sections, and the day from which on each is in force
@@ -1682,7 +1788,7 @@ def at_moments(program):
         yield f"the words {words}", found == (*usage[:2], no_option(option) + usage[2]), found
     for name, other in (("CRL", crl()), ("CSR", csr()), ("trust anchor", anchor())):
         found = ended(program, ["--web", moment], other)
-        yield f"a {name} with --web", found == (2, "", f"x509_linter: standard input: not a certificate in DER, PEM or hex{looks(other)}\n"), found
+        yield f"a {name} with --web", found == (2, "", f"x509_linter: standard input: not a certificate in DER, PEM or hex{NO_CERTIFICATE[name]}\n"), found
     with tempfile.TemporaryDirectory() as folder:
         paths = [f"{folder}/{at}" for at in range(2)]
         for path in paths:
@@ -1717,7 +1823,7 @@ def at_not_before(program):
     yield "all rules with not-before", (status, said) == (1, "") and set(text.splitlines()) >= {f"certificate: {it}" for it, _ in WEB_LINES}, text
     for name, other in (("CRL", crl()), ("CSR", csr()), ("trust anchor", anchor())):
         found = ended(program, ["--web", "not-before"], other)
-        wanted = (2, "", f"x509_linter: standard input: not a certificate in DER, PEM or hex{looks(other)}\n")
+        wanted = (2, "", f"x509_linter: standard input: not a certificate in DER, PEM or hex{NO_CERTIFICATE[name]}\n")
         yield f"a {name} with not-before", found == wanted, found
     with tempfile.TemporaryDirectory() as folder:
         paths = [f"{folder}/{at}" for at in range(3)]
@@ -1770,14 +1876,14 @@ def by_both(program):
     yield "all rules of both", (status, said) == (1, "") and is_so, text
     for kind, other in (("CRL", crl()), ("CSR", csr()), ("trust anchor", anchor())):
         found = ended(program, ["--web", "--rfc", moment], other)
-        wanted = (2, "", f"x509_linter: standard input: not a certificate in DER, PEM or hex{looks(other)}\n")
+        wanted = (2, "", f"x509_linter: standard input: not a certificate in DER, PEM or hex{NO_CERTIFICATE[kind]}\n")
         yield f"a {kind} by both", found == wanted, found
     with tempfile.TemporaryDirectory() as folder:
         paths = [f"{folder}/{at}" for at in range(3)]
         for path, data in zip(paths, (odd, certificate(), crl())):
             pathlib.Path(path).write_bytes(data)
         found = ended(program, ["--web", "--rfc", "--only", alt, "--only", serial, moment, *paths])
-        text, said = f"{paths[0]}:\n{bad}{absent}{paths[1]}:\n{absent}", f"x509_linter: {paths[2]}: not a certificate in DER, PEM or hex{looks(crl())}\n"
+        text, said = f"{paths[0]}:\n{bad}{absent}{paths[1]}:\n{absent}", f"x509_linter: {paths[2]}: not a certificate in DER, PEM or hex{NO_CERTIFICATE['CRL']}\n"
         yield "several files by both", found == (2, text, said), found
     for words, what in (
         (["--rfc"], "--rfc stands without --web"),
@@ -1915,7 +2021,7 @@ def summaries(program):
         chain = b"".join(next(pem_of(data)) for data in (weak, odd, certificate())) + PEM_OF_NOTHING
         for path, data in zip(paths, (weak, both, certificate(), chain, b"")):
             pathlib.Path(path).write_bytes(data)
-        said = f"x509_linter: {paths[3]}, object 4: {NO_OBJECT}{WHOLE}\nx509_linter: {paths[4]}: {NO_OBJECT}; it is empty\n"
+        said = f"x509_linter: {paths[3]}, object 4: {NO_OBJECT}{NOTHING}\nx509_linter: {paths[4]}: {NO_OBJECT}; it is empty\n"
         found = ended(program, ["--count", *paths])
         yield "several files with --count", found == (2, f"3 {warned}2 {bad}", said), found
         found = ended(program, ["--count", "-v", *paths])

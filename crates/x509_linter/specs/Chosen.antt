@@ -5,6 +5,7 @@ use Rattle.x509_linter.specs.Choice.{asks, has_count}
 use Rattle.x509_linter.specs.Lines.{has_counted, kept_text}
 use Rattle.x509_linter.specs.Linter.{IsNone, front_for, headed, json_front, no_object, refused, status_of, told}
 use Rattle.x509_linter.specs.Said.{is_said_by}
+use Rattle.x509_linter.specs.Wrong.{wrong}
 use Rattle.x509_linter.specs.declared.chosen.Chosen.{Chosen}
 use Rattle.x509_linter.specs.declared.chosen.Findings.{Findings}
 use Rattle.x509_linter.specs.declared.linter.Linter.{Linter}
@@ -50,6 +51,7 @@ chosen_subject linter options = record {
   prints = Tells linter options;
   is_none = IsNone linter;
   no_object = no_object linter.kind;
+  wrong = wrong linter.kind;
   headed = headed_for (has_count options) linter.telling;
   refused = refused linter.telling linter.kind;
 }

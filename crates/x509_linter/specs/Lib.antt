@@ -2,6 +2,7 @@ pub mod Choice
 pub mod Chosen
 pub mod Count
 pub mod Lines
+pub mod Wrong
 pub mod Linter
 pub mod Names
 pub mod Run

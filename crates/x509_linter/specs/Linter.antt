@@ -17,10 +17,11 @@ use Rattle.x509_linter.specs.declared.said.Moment.{Moment}
 use Rattle.x509_linter.specs.declared.said.Moment.TheVariants.{At, NotBefore}
 use Rattle.x509_linter.specs.declared.said.Rules.{Rules}
 use Rattle.x509_linter.specs.declared.said.Rules.TheVariants.{Rfc, Web, Both}
-use Rattle.x509_object_run.specs.Faults.{fault_text}
+use Rattle.x509_object_run.specs.Faults.{told_text}
 use Rattle.x509_object_run.specs.Labels.{word_label}
 use Rattle.x509_object_run.specs.Object.{Steps, Subject}
 use Rattle.x509_object_run.specs.Program.{Program}
+use Rattle.x509_linter.specs.Wrong.{fault_members, wrong}
 use Rattle.x509_object_run.specs.Words.{has_option}
 use Rattle.x509_object_run.specs.declared.fault.Fault.{Fault}
 use Rattle.x509_object_run.specs.declared.fault.Fault.TheVariants as faults
@@ -293,12 +294,15 @@ is_unwritten (faults.NoObject looks) = false
 is_unwritten faults.Unwritten = true
 is_unwritten faults.Memory = false
 
--- an object of JSON that says why
-abbrev pub refused_json : List ℕ → List ℕ → List ℕ
-refused_json name reason = ((json_front name ++ codes "\"result\": \"refused\", \"reason\": \"") ++ reason) ++ codes "\"}\n"
+-- an object of JSON that says why, with further members
+abbrev pub refused_json : List ℕ → List ℕ → List ℕ → List ℕ
+refused_json name reason members =
+    ((((json_front name ++ codes "\"result\": \"refused\", \"reason\": \"") ++ reason) ++ codes "\"") ++ members) ++ codes "}\n"
 
-abbrev pub refused : Telling → Option Kind → List ℕ → Fault → List ℕ
-refused telling kind name fault = if tells_refusals telling && not (is_unwritten fault) then refused_json name (fault_text (no_object kind) fault) else []
+abbrev pub refused : Telling → Option Kind → List ℕ → List ℕ → Fault → List ℕ
+refused telling kind name bytes fault =
+    if tells_refusals telling && not (is_unwritten fault) then refused_json name (told_text (no_object kind) (wrong kind bytes) fault) (fault_members kind bytes fault)
+    else []
 
 -- findings under a heading, which JSON doesn't have
 abbrev pub found : Telling → List ℕ → List ℕ → List ℕ
@@ -333,6 +337,7 @@ subject linter = record {
   prints = Tells linter;
   is_none = IsNone linter;
   no_object = no_object linter.kind;
+  wrong = wrong linter.kind;
   headed = headed linter.telling;
   refused = refused linter.telling linter.kind;
 }

@@ -12,6 +12,7 @@ use crate::lines::{has_counted, kept_text};
 use crate::linter::{
     Linter, Telling, front_of, headed, no_object, refused, report_of, status_of, tell,
 };
+use crate::wrong::wrong_in;
 use std::alloc::{AllocError, Global};
 use x509_der::Error;
 use x509_object_run::{Fault, Headed, Heading, PrintError, Printer};
@@ -115,6 +116,10 @@ impl Printer for Chosen<'_> {
         no_object(self.linter.kind)
     }
 
+    fn wrong(&self, alloc: Global, bytes: &[u8]) -> Result<String, AllocError> {
+        wrong_in(alloc, self.linter.kind, bytes)
+    }
+
     fn headed(&self, is_several: bool) -> Headed {
         if has_count(self.options) {
             Headed::Not
@@ -127,9 +132,11 @@ impl Printer for Chosen<'_> {
         &self,
         alloc: Global,
         heading: Heading<'_>,
+        bytes: &[u8],
         fault: Fault,
     ) -> Result<Vec<u8>, AllocError> {
-        refused(alloc, self.linter.telling, self.linter.kind, heading, fault)
+        let Linter { kind, telling, .. } = self.linter;
+        refused(alloc, telling, kind, heading, bytes, fault)
     }
 
     fn print<W: Sink>(

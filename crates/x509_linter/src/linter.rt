@@ -5,20 +5,24 @@ ghost use Rattle.std.specs.Option.{option_map};
 ghost use Rattle.std.specs.Prelude.{◌≡◌, ◌++◌, ◌∷◌, [], IfErr, IfOk, List, Some, map, string_bytes};
 ghost use Rattle.x509_linter.specs.Linter as grammar;
 ghost use Rattle.x509_linter.specs.Said.{is_said_by};
+ghost use Rattle.x509_linter.specs.Wrong.{wrong};
 ghost use Rattle.x509_der.specs.declared.error.ErrorKind.TheVariants as errors;
+ghost use Rattle.x509_object_run.specs.Faults.{told_text};
 ghost use Rattle.x509_object_run.specs.Object.{heading_text};
 ghost use Rattle.x509_tool_run.specs.Answer.{as_line};
 
 use crate::choice::{are_mixed, is_among, is_choice, is_right, names_rules};
 use crate::said::{Moment, Rules, said_by};
 use crate::values::takes_value;
+use crate::wrong::{fault_members, wrong_in};
 use std::alloc::{AllocError, Global};
 use std::str::FromStr;
 use x509_base::DateTime;
 use x509_der::Error;
 use x509_lint::{Kind, Report, Style};
 use x509_object_run::{
-    Asked, Fault, Headed, Heading, PrintError, Printer, fault_words, word_label, write_headed,
+    Asked, Fault, Headed, Heading, PrintError, Printer, fault_words, is_whole, whole_words,
+    word_label, write_headed,
 };
 use x509_text::write_json_text;
 use x509_tool_run::{Sink, WriteError, write_text};
@@ -556,16 +560,39 @@ fn is_unwritten(fault: Fault) -> bool
     }
 }
 
-/// An object of JSON that says why an input is refused.
-fn refused_json(alloc: Global, heading: Heading<'_>, reason: &[u8]) -> Result<Vec<u8>, AllocError>
-    ensures { IfOk result (λ text. text.items ≡ grammar.refused_json (heading_text heading.entry) reason.now) }
+/// An object of JSON that says why an input is refused, with further members.
+fn refused_json(
+    alloc: Global,
+    heading: Heading<'_>,
+    reason: &[u8],
+    members: &[u8],
+) -> Result<Vec<u8>, AllocError>
+    ensures { IfOk result (λ text. text.items ≡ grammar.refused_json (heading_text heading.entry) reason.now members.now) }
 {
     let front = front_of(alloc, heading)?;
     let mut text = Vec::from_slice(alloc, front.as_str().as_bytes())?;
     text.extend_from_slice(b"\"result\": \"refused\", \"reason\": \"")?;
     text.extend_from_slice(reason)?;
-    text.extend_from_slice(b"\"}\n")?;
+    text.extend_from_slice(b"\"")?;
+    text.extend_from_slice(members)?;
+    text.extend_from_slice(b"}\n")?;
     Ok(text)
+}
+
+/// Why an input is refused, in words.
+fn told_words(
+    alloc: Global,
+    kind: Option<Kind>,
+    bytes: &[u8],
+    fault: Fault,
+) -> Result<String, AllocError>
+    ensures { IfOk result (λ text. string_bytes text ≡ told_text (grammar.no_object kind) (wrong kind bytes.now) fault) }
+{
+    if !is_whole(fault) {
+        return fault_words(alloc, no_object(kind), fault);
+    }
+    let wrong = wrong_in(alloc, kind, bytes)?;
+    whole_words(alloc, no_object(kind), wrong.as_str())
 }
 
 /// What is printed of an input that is refused.
@@ -574,13 +601,20 @@ pub(crate) fn refused(
     telling: Telling,
     kind: Option<Kind>,
     heading: Heading<'_>,
+    bytes: &[u8],
     fault: Fault,
 ) -> Result<Vec<u8>, AllocError>
-    ensures { IfOk result (λ text. text.items ≡ grammar.refused telling kind (heading_text heading.entry) fault) }
+    ensures { IfOk result (λ text. text.items ≡ grammar.refused telling kind (heading_text heading.entry) bytes.now fault) }
 {
     if tells_refusals(telling) && !is_unwritten(fault) {
-        let words = fault_words(alloc, no_object(kind), fault)?;
-        return refused_json(alloc, heading, words.as_str().as_bytes());
+        let words = told_words(alloc, kind, bytes, fault)?;
+        let members = fault_members(alloc, kind, bytes, fault)?;
+        return refused_json(
+            alloc,
+            heading,
+            words.as_str().as_bytes(),
+            members.as_str().as_bytes(),
+        );
     }
     Ok(Vec::new(alloc))
 }
@@ -638,6 +672,10 @@ impl Printer for Linter {
         no_object(self.kind)
     }
 
+    fn wrong(&self, alloc: Global, bytes: &[u8]) -> Result<String, AllocError> {
+        wrong_in(alloc, self.kind, bytes)
+    }
+
     fn headed(&self, is_several: bool) -> Headed {
         headed(self.telling, is_several)
     }
@@ -646,9 +684,10 @@ impl Printer for Linter {
         &self,
         alloc: Global,
         heading: Heading<'_>,
+        bytes: &[u8],
         fault: Fault,
     ) -> Result<Vec<u8>, AllocError> {
-        refused(alloc, self.telling, self.kind, heading, fault)
+        refused(alloc, self.telling, self.kind, heading, bytes, fault)
     }
 
     fn print<W: Sink>(

@@ -11,6 +11,7 @@ mod run;
 mod said;
 mod summary;
 mod values;
+mod wrong;
 
 use crate::linter::Linter;
 use crate::run::lint;

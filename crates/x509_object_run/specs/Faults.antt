@@ -1,5 +1,5 @@
 -- Why nothing whole is printed of an input, in words.
-use Rattle.std.specs.Prelude.{ℕ, ◌-◌, ◌==◌, Bool, not, List, [], ◌∷◌, ◌++◌, Result, Ok, Err, codes, length, nat_eq, if◌then◌else◌}
+use Rattle.std.specs.Prelude.{ℕ, ◌-◌, ◌==◌, Bool, true, false, not, List, [], ◌∷◌, ◌++◌, Result, Ok, Err, codes, length, nat_eq, if◌then◌else◌}
 use Rattle.std.specs.Fmt.{decimal}
 use Rattle.std.specs.List.{starts_with}
 use Rattle.x509_der.specs.ElementReading.{Piece, piece_at}
@@ -70,6 +70,30 @@ fault_text no_object (Unarmoured why) = broken_text why
 fault_text no_object (NoObject looks) = no_object ++ looks_text looks
 fault_text no_object Unwritten = codes "the output can't be written"
 fault_text no_object Memory = codes "out of memory"
+
+-- whether bytes are told to be no object though they are one SEQUENCE
+abbrev pub is_whole : Fault → Bool
+is_whole (Unopened e) = false
+is_whole Unreadable = false
+is_whole TooLong = false
+is_whole (Unarmoured why) = false
+is_whole (NoObject Empty) = false
+is_whole (NoObject Pem) = false
+is_whole (NoObject NoElement) = false
+is_whole (NoObject Unfinished) = false
+is_whole (NoObject NoSequence) = false
+is_whole (NoObject (Trailing place count)) = false
+is_whole (NoObject Whole) = true
+is_whole Unwritten = false
+is_whole Memory = false
+
+-- of such bytes, what in them is wrong
+abbrev pub whole_text : List ℕ → List ℕ → List ℕ
+whole_text no_object wrong = (no_object ++ codes "; its SEQUENCE is whole, but ") ++ wrong
+
+-- a fault in words, where bytes that are no object are told so, and of those that are one SEQUENCE what in them is wrong
+abbrev pub told_text : List ℕ → List ℕ → Fault → List ℕ
+told_text no_object wrong fault = if is_whole fault then whole_text no_object wrong else fault_text no_object fault
 
 -- as `x509_show: cert.der: no such file`, and a line feed
 abbrev pub complaint : List ℕ → List ℕ → List ℕ → List ℕ

@@ -110,13 +110,15 @@ heading_for Line label = label ++ codes ":\n"
 heading_for Name label = label
 
 -- What a printer says of its object. That a heading and bytes give a text and a status; that bytes are no object of its kind; how that is
--- told; what stands above it, where there are several inputs or there is one; and what is printed where nothing whole is, under a heading and by why it isn't.
+-- told, and what in them is wrong where they are one SEQUENCE; what stands above it, where there are several inputs or there is one; and what is printed where
+-- nothing whole is, under a heading, of bytes, or none where none are read, and by why it isn't.
 pub record Subject : Type 1 where
   pub prints : Prints
   pub is_none : List ℕ → Type 0
   pub no_object : List ℕ
+  pub wrong : List ℕ → List ℕ
   pub headed : Bool → Headed
-  pub refused : List ℕ → Fault → List ℕ
+  pub refused : List ℕ → List ℕ → Fault → List ℕ
 
 -- bytes are printed under a heading
 abbrev pub AreShown : {W : Type 0} → Subject → List ℕ → List ℕ → Steps W → W → W → Result ℕ Fault → Type 0

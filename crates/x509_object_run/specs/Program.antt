@@ -4,7 +4,7 @@ use Rattle.std.specs.Fmt.{decimal}
 use Rattle.std.specs.List.{flat_map}
 use Rattle.std.specs.Option.{option_to_list}
 use Rattle.x509_object_run.specs.Below.{AreOfAll, Lists, Stands}
-use Rattle.x509_object_run.specs.Faults.{complaint, fault_text, short_complaint}
+use Rattle.x509_object_run.specs.Faults.{complaint, fault_text, short_complaint, told_text}
 use Rattle.x509_object_run.specs.Labels.{is_standard, label_of}
 use Rattle.x509_object_run.specs.Object.{AreShown, Item, Steps, Subject, heading_for, item_of, numbered, object_bytes, objects_of_item, text_bytes, unread_fault}
 use Rattle.x509_object_run.specs.Words.{has_option, inputs_of, names_of, options_of}
@@ -125,29 +125,29 @@ abbrev pub IsForgotten : {W E : Type 0} → List ℕ → Steps E → List ℕ �
 IsForgotten program takes_errors label old new =
     (new.output ≡ old.output) × IsTold takes_errors old.errors (complaint program label (fault_text [] Memory)) new.errors
 
--- nothing whole is printed: that is printed and told, or there is no memory
-abbrev pub IsRefused : {W E : Type 0} → List ℕ → Subject → Steps W → Steps E → Headed → List ℕ → Fault → Outputs W E → Outputs W E → Type 0
-IsRefused program subject takes takes_errors headed label fault old new =
-    (IsTold takes old.output (subject.refused (heading_for headed label) fault) new.output
-    × IsTold takes_errors old.errors (complaint program label (fault_text subject.no_object fault)) new.errors)
+-- nothing whole is printed of bytes: that is printed and told, or there is no memory
+abbrev pub IsRefused : {W E : Type 0} → List ℕ → Subject → Steps W → Steps E → Headed → List ℕ → List ℕ → Fault → Outputs W E → Outputs W E → Type 0
+IsRefused program subject takes takes_errors headed label bytes fault old new =
+    (IsTold takes old.output (subject.refused (heading_for headed label) bytes fault) new.output
+    × IsTold takes_errors old.errors (complaint program label (told_text subject.no_object (subject.wrong bytes) fault)) new.errors)
     ⊎ IsForgotten program takes_errors label old new
 
--- what came of printing ends it: with its status, or with a message and status 2
-abbrev pub IsEnded : {W E : Type 0} → List ℕ → Subject → Writes W E → Headed → List ℕ → Result ℕ Fault → Outputs W E → Outputs W E → ℕ → Type 0
-IsEnded program subject by headed label (Ok shown) old new status = (new ≡ old) × (status ≡ shown)
-IsEnded program subject by headed label (Err fault) old new status = IsRefused program subject by.takes by.takes_errors headed label fault old new × (status ≡ 2)
+-- what came of printing bytes ends it: with its status, or with a message and status 2
+abbrev pub IsEnded : {W E : Type 0} → List ℕ → Subject → Writes W E → Headed → List ℕ → List ℕ → Result ℕ Fault → Outputs W E → Outputs W E → ℕ → Type 0
+IsEnded program subject by headed label bytes (Ok shown) old new status = (new ≡ old) × (status ≡ shown)
+IsEnded program subject by headed label bytes (Err fault) old new status = IsRefused program subject by.takes by.takes_errors headed label bytes fault old new × (status ≡ 2)
 
 -- the bytes of an object are shown and ended
 abbrev pub IsObjectDone : {W E : Type 0} → List ℕ → Subject → Writes W E → Headed → List ℕ → List ℕ → Outputs W E → Outputs W E → ℕ → Type 0
 IsObjectDone {W} program subject by headed label bytes old new status =
     (result : Result ℕ Fault) × (middle : W)
     × AreShown subject (heading_for headed label) bytes by.takes old.output middle result
-    × IsEnded program subject by headed label result (outputs middle old.errors) new status
+    × IsEnded program subject by headed label bytes result (outputs middle old.errors) new status
 
 -- the bytes of an object are shown and ended, or it is told why there are none
 abbrev pub IsItemShown : {W E : Type 0} → List ℕ → Subject → Writes W E → Headed → List ℕ → Item → Outputs W E → Outputs W E → ℕ → Type 0
 IsItemShown program subject by headed label (Ok bytes) old new status = IsObjectDone program subject by headed label bytes old new status
-IsItemShown program subject by headed label (Err fault) old new status = IsRefused program subject by.takes by.takes_errors headed label fault old new × (status ≡ 2)
+IsItemShown program subject by headed label (Err fault) old new status = IsRefused program subject by.takes by.takes_errors headed label [] fault old new × (status ≡ 2)
 
 -- and it is counted
 abbrev pub IsItemDone : {W E : Type 0} → List ℕ → Subject → Writes W E → Headed → List ℕ → Item → Outputs W E → Outputs W E → ℕ → Type 0
@@ -226,7 +226,7 @@ IsStopped gives from bytes lines others to Unwritten = ⊥
 abbrev pub AreCutShort : {W E : Type 0} → List ℕ → Subject → Writes W E → Headed → List ℕ → List Item → Fault → Outputs W E → Outputs W E → ℕ → Type 0
 AreCutShort {W} {E} program subject by headed label items fault old new status =
     (middle : Outputs W E) × (worst : ℕ) × AreNumberedDone program subject by label 0 items old middle worst
-    × IsRefused program subject by.takes by.takes_errors headed label fault middle new × (status ≡ 2)
+    × IsRefused program subject by.takes by.takes_errors headed label [] fault middle new × (status ≡ 2)
 
 -- An input is read to its end, and its items are done. Or reading stops before, or memory is refused at the end.
 abbrev pub IsSourceDone : {R W E : Type 0} → List ℕ → Subject → Writes W E → Steps R → Headed → List ℕ → R → R → Outputs W E → Outputs W E → ℕ → Type 0

@@ -1,7 +1,7 @@
 //! Why nothing whole is printed of an input.
 
 ghost use Rattle.std.specs.Prelude.{◌≡◌, ◌++◌, IfOk, string_bytes};
-ghost use Rattle.x509_object_run.specs.Faults.{begins_with, broken_text, fault_text, looks_of, looks_of_none, looks_of_piece, looks_text, opening_text};
+ghost use Rattle.x509_object_run.specs.Faults.{begins_with, broken_text, fault_text, is_whole, looks_of, looks_of_none, looks_of_piece, looks_text, opening_text, whole_text};
 ghost use Rattle.x509_object_run.specs.declared.fault.Looks.TheVariants as looks;
 
 use std::alloc::{AllocError, Global};
@@ -181,6 +181,30 @@ fn broken_text(why: Broken) -> &'static str
         Broken::OtherEnd => "the line that ends its PEM hasn't the label of the one that begins it",
         Broken::NoBase64 => "what stands in its PEM is no base64",
     }
+}
+
+/// Whether bytes are told to be no object though they are one SEQUENCE.
+pub fn is_whole(fault: Fault) -> bool
+    ensures { result ≡ is_whole fault }
+{
+    match fault {
+        Fault::NoObject(looks) => matches!(looks, Looks::Whole),
+        _ => false,
+    }
+}
+
+/// How such bytes are told to be no object, by what in them is wrong.
+///
+/// # Errors
+///
+/// `AllocError` when out of memory.
+pub fn whole_words(alloc: Global, no_object: &str, wrong: &str) -> Result<String, AllocError>
+    ensures { IfOk result (λ text. string_bytes text ≡ whole_text no_object.now wrong.now) }
+{
+    let mut text = String::from_str(alloc, no_object)?;
+    text.push_str("; its SEQUENCE is whole, but ")?;
+    text.push_str(wrong)?;
+    Ok(text)
 }
 
 /// How it is told that bytes are no object that look so.

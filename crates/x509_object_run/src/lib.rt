@@ -21,7 +21,9 @@ mod signed_data;
 mod words;
 
 pub use console::{Console, Counter};
-pub use fault::{Fault, Looks, OpenError, PrintError, fault_words, looks_of};
+pub use fault::{
+    Fault, Looks, OpenError, PrintError, fault_words, is_whole, looks_of, whole_words,
+};
 pub use files::{Listed, Opener, Place};
 pub use heading::{Headed, Heading, write_headed};
 pub use input::object_bytes;

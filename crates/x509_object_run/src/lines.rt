@@ -384,7 +384,7 @@ fn stop<P: Printer, W: Sink, E: Console>(
         → AreCutShort P.program.name (P.subject printer.now) (writes W.takes E.takes E.counts) headed label.now items fault first (outputs writer.new errors.new) result }
 {
     flush(alloc, printer, label, shown, writer, errors);
-    refuse(alloc, printer, headed, label, fault, writer, errors);
+    refuse(alloc, printer, headed, label, &[], fault, writer, errors);
     2
 }
 

@@ -1,7 +1,7 @@
 //! What a program prints of an object, and what its words ask for.
 
 ghost use Rattle.std.specs.Option.{option_map};
-ghost use Rattle.std.specs.Prelude.{◌≡◌, ◌++◌, ℕ, IfOk, List, Option, map};
+ghost use Rattle.std.specs.Prelude.{◌≡◌, ◌++◌, ℕ, IfOk, List, Option, map, string_bytes};
 ghost use Rattle.x509_object_run.specs.Object.{IsPrinted, Subject, heading_text};
 ghost use Rattle.x509_object_run.specs.Program.{Program};
 ghost use Rattle.x509_tool_run.specs.Answer.{as_line};
@@ -27,11 +27,20 @@ pub trait Printer: Sized + Drop {
     fn no_object(&self) -> &'static str
         ensures { result.now ≡ (subject self.now).no_object };
 
+    /// What in bytes is wrong that are no object of the kind that is asked for, though they are one SEQUENCE.
+    ///
+    /// # Errors
+    ///
+    /// `AllocError` when out of memory.
+    fn wrong(&self, alloc: Global, bytes: &[u8]) -> Result<String, AllocError>
+        ensures { IfOk result (λ text. string_bytes text ≡ (subject self.now).wrong bytes.now) };
+
     /// What stands above what is printed of an input, where there are several or there is one.
     fn headed(&self, is_several: bool) -> Headed
         ensures { result ≡ (subject self.now).headed is_several };
 
-    /// What is printed of an input or an object of which nothing whole is printed, under a heading: beside the message, it may be nothing.
+    /// What is printed of an input or an object of which nothing whole is printed, under a heading: beside the message, it may be nothing. There are no
+    /// bytes where none are read.
     ///
     /// # Errors
     ///
@@ -40,9 +49,10 @@ pub trait Printer: Sized + Drop {
         &self,
         alloc: Global,
         heading: Heading<'_>,
+        bytes: &[u8],
         fault: Fault,
     ) -> Result<Vec<u8>, AllocError>
-        ensures { IfOk result (λ text. text.items ≡ (subject self.now).refused (heading_text heading.entry) fault) };
+        ensures { IfOk result (λ text. text.items ≡ (subject self.now).refused (heading_text heading.entry) bytes.now fault) };
 
     /// Writes what is printed of the bytes under a heading, and answers the status of the program.
     ///

@@ -3,13 +3,13 @@
 ghost use Rattle.std.specs.Cow.{cow_str_bytes};
 ghost use Rattle.std.specs.Prelude.{◌≡◌, ℕ, [], IfOk, Option, map, max, string_bytes};
 ghost use Rattle.std.specs.Result.{result_map_both};
-ghost use Rattle.x509_object_run.specs.Faults.{complaint, fault_text};
+ghost use Rattle.x509_object_run.specs.Faults.{complaint, fault_text, told_text};
 ghost use Rattle.x509_object_run.specs.Object.{AreShown, heading_for};
 ghost use Rattle.x509_object_run.specs.Program.{AreDone, IsCalledDone, IsCounted, IsDone, IsFileDone, IsItemDone, IsItemShown, IsObjectDone, IsRefused, IsTold, outputs, streams, world_of, writes};
 ghost use Rattle.x509_object_run.specs.declared.fault.Fault.TheVariants.{Memory};
 
 use crate::console::Console;
-use crate::fault::{Fault, OpenError, PrintError, fault_words, looks_of};
+use crate::fault::{Fault, OpenError, PrintError, fault_words, is_whole, looks_of, whole_words};
 use crate::files::Opener;
 use crate::heading::{Headed, heading_of};
 use crate::label::{is_standard, label_of, numbered};
@@ -46,36 +46,56 @@ fn try_write<W: Sink>(text: &[u8], writer: &mut W)
     let _ = write_text(writer, text);
 }
 
-/// What is printed where nothing whole is, and what is told.
+/// Why nothing whole is printed of bytes, in words.
+fn told_of<P: Printer>(
+    alloc: Global,
+    printer: &P,
+    bytes: &[u8],
+    fault: Fault,
+) -> Result<String, AllocError>
+    ensures { IfOk result (λ text. string_bytes text
+        ≡ told_text (P.subject printer.now).no_object ((P.subject printer.now).wrong bytes.now) fault) }
+{
+    if !is_whole(fault) {
+        return fault_words(alloc, printer.no_object(), fault);
+    }
+    let wrong = printer.wrong(alloc, bytes)?;
+    whole_words(alloc, printer.no_object(), wrong.as_str())
+}
+
+/// What is printed where nothing whole is printed of bytes, and what is told.
 fn refusal_of<P: Printer>(
     alloc: Global,
     printer: &P,
     headed: Headed,
     label: &str,
+    bytes: &[u8],
     fault: Fault,
 ) -> Result<(Vec<u8>, String), AllocError>
-    ensures printed { IfOk result (λ refusal. refusal.0.items ≡ (P.subject printer.now).refused (heading_for headed label.now) fault) }
-    ensures told { IfOk result (λ refusal. string_bytes refusal.1 ≡ fault_text (P.subject printer.now).no_object fault) }
+    ensures printed { IfOk result (λ refusal. refusal.0.items ≡ (P.subject printer.now).refused (heading_for headed label.now) bytes.now fault) }
+    ensures told { IfOk result (λ refusal. string_bytes refusal.1
+        ≡ told_text (P.subject printer.now).no_object ((P.subject printer.now).wrong bytes.now) fault) }
 {
-    let text = printer.refused(alloc, heading_of(headed, label), fault)?;
-    let words = fault_words(alloc, printer.no_object(), fault)?;
+    let text = printer.refused(alloc, heading_of(headed, label), bytes, fault)?;
+    let words = told_of(alloc, printer, bytes, fault)?;
     Ok((text, words))
 }
 
-/// Prints and tells why nothing whole is printed.
+/// Prints and tells why nothing whole is printed of bytes, of none where none are read.
 pub(crate) fn refuse<P: Printer, W: Sink, E: Sink>(
     alloc: Global,
     printer: &P,
     headed: Headed,
     label: &str,
+    bytes: &[u8],
     fault: Fault,
     writer: &mut W,
     errors: &mut E,
 )
-    ensures { IsRefused P.program.name (P.subject printer.now) W.takes E.takes headed label.now fault
+    ensures { IsRefused P.program.name (P.subject printer.now) W.takes E.takes headed label.now bytes.now fault
         (outputs writer.old errors.old) (outputs writer.new errors.new) }
 {
-    match refusal_of(alloc, printer, headed, label, fault) {
+    match refusal_of(alloc, printer, headed, label, bytes, fault) {
         Ok((text, words)) => {
             try_write(text.as_slice(), writer);
             complain_of(
@@ -112,7 +132,7 @@ fn do_object<P: Printer, W: Sink, E: Console>(
     match show_bytes(alloc, printer, headed, label, bytes, writer) {
         Ok(status) => status,
         Err(fault) => {
-            refuse(alloc, printer, headed, label, fault, writer, errors);
+            refuse(alloc, printer, headed, label, bytes, fault, writer, errors);
             2
         }
     }
@@ -144,7 +164,7 @@ fn show_item<P: Printer, W: Sink, E: Console>(
     match item {
         Ok(bytes) => do_object(alloc, printer, headed, label, bytes, writer, errors),
         Err(fault) => {
-            refuse(alloc, printer, headed, label, fault, writer, errors);
+            refuse(alloc, printer, headed, label, &[], fault, writer, errors);
             2
         }
     }

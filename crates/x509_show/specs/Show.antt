@@ -5,6 +5,10 @@ use Rattle.x509_object_run.specs.Object.{Subject}
 use Rattle.x509_object_run.specs.Program.{Program}
 use Rattle.x509_object_run.specs.declared.heading.Headed.{Headed}
 use Rattle.x509_object_run.specs.declared.heading.Headed.TheVariants.{Not, Line}
+use Rattle.x509_refusal.specs.Objects.{farthest, refusal_as}
+use Rattle.x509_refusal.specs.Words.{wrong_text}
+use Rattle.x509_refusal.specs.declared.place.Kind.TheVariants as objects
+use Rattle.x509_refusal.specs.declared.place.Refusal.{Refusal}
 use Rattle.x509_show.specs.declared.show.Show.{Show}
 use Rattle.x509_text.specs.Objects.{shown, shown_as}
 use Rattle.x509_text.specs.declared.line.Style.{Style}
@@ -105,11 +109,24 @@ headed Text true = Line
 headed Text false = Not
 headed Json is_several = Not
 
+-- where bytes stop being an object of the kind that is asked for, or of the one that they are most like; of a trust anchor it isn't known
+abbrev pub refusal_for : Option Kind → List ℕ → Option Refusal
+refusal_for None bytes = farthest bytes
+refusal_for (Some Certificate) bytes = refusal_as objects.Certificate bytes
+refusal_for (Some Crl) bytes = refusal_as objects.Crl bytes
+refusal_for (Some Csr) bytes = refusal_as objects.Csr bytes
+refusal_for (Some Anchor) bytes = None
+
+-- what in them is wrong
+abbrev pub wrong : Option Kind → List ℕ → List ℕ
+wrong kind bytes = wrong_text (refusal_for kind bytes)
+
 abbrev pub subject : Show → Subject
 subject show = record {
   prints = λ heading bytes text status. IsDocument heading (document_of show.kind show.style bytes) text status;
   is_none = λ bytes. document_of show.kind show.style bytes ≡ None;
   no_object = no_object show.kind;
+  wrong = wrong show.kind;
   headed = headed show.style;
-  refused = λ heading fault. [];
+  refused = λ heading bytes fault. [];
 }

@@ -3,12 +3,13 @@
 ghost use Rattle.std.specs.Option.{option_map};
 ghost use Rattle.std.specs.Prelude.{◌≡◌, IfOk, None, Some, map};
 ghost use Rattle.x509_object_run.specs.Object.{IsPrinted, heading_text};
-ghost use Rattle.x509_show.specs.Show.{IsDocument, asked_of, document_of, headed, kind_of, no_object, style_of};
+ghost use Rattle.x509_show.specs.Show.{IsDocument, asked_of, document_of, headed, kind_of, no_object, refusal_for, style_of};
 ghost use Rattle.x509_text.specs.Pieces.{text_of};
 
 use crate::pieces::write_pieces;
 use std::alloc::{AllocError, Global};
 use x509_object_run::{Asked, Fault, Headed, Heading, PrintError, Printer, write_headed};
+use x509_refusal::{Refusal, farthest, refusal_as, wrong_words};
 use x509_text::{Document, Kind, Style, document_of_bytes, document_of_kind};
 use x509_tool_run::{Sink, WriteError};
 
@@ -95,6 +96,19 @@ fn no_object(kind: Option<Kind>) -> &'static str
     }
 }
 
+/// Where bytes stop being an object of the kind that is asked for, or of the one that they are most like; `None` of a trust anchor.
+fn refusal_for(kind: Option<Kind>, bytes: &[u8]) -> Option<Refusal>
+    ensures { result ≡ refusal_for kind bytes.now }
+{
+    match kind {
+        None => farthest(bytes),
+        Some(Kind::Certificate) => refusal_as(x509_refusal::Kind::Certificate, bytes),
+        Some(Kind::Crl) => refusal_as(x509_refusal::Kind::Crl, bytes),
+        Some(Kind::Csr) => refusal_as(x509_refusal::Kind::Csr, bytes),
+        Some(Kind::Anchor) => None,
+    }
+}
+
 /// What stands above the document of an input.
 fn headed(style: Style, is_several: bool) -> Headed
     ensures { result ≡ headed style is_several }
@@ -151,6 +165,10 @@ impl Printer for Show {
         no_object(self.kind)
     }
 
+    fn wrong(&self, alloc: Global, bytes: &[u8]) -> Result<String, AllocError> {
+        wrong_words(alloc, refusal_for(self.kind, bytes))
+    }
+
     fn headed(&self, is_several: bool) -> Headed {
         headed(self.style, is_several)
     }
@@ -159,6 +177,7 @@ impl Printer for Show {
         &self,
         alloc: Global,
         _heading: Heading<'_>,
+        _bytes: &[u8],
         _fault: Fault,
     ) -> Result<Vec<u8>, AllocError> {
         Ok(Vec::new(alloc))
