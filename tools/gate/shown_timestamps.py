@@ -81,7 +81,7 @@ def refused():
     yield "a list without an OCTET STRING", certificate(extensions=(*OTHERS, bare)), "its list of SCTs can't be decoded"
     yield "no list", certificate(), "it has no list of SCTs"
     yield "two lists", certificate(extensions=(listed(timestamp()), *OTHERS, listed())), "it has two lists of SCTs or more"
-    yield "a CRL", [*crls()][-1][1], NO_CERTIFICATE + WHOLE
+    yield "a CRL", [*crls()][-1][1], NO_CERTIFICATE + WHOLE + "something in it is wrong"
     yield "nothing", b"", f"{NO_CERTIFICATE}; it is empty"
 
 
@@ -119,7 +119,7 @@ def runs(program, usage):
             ("a directory", [option, issuer, folder], b"", told(folder, "is a directory")),
             ("no issuer", [option, missing, file], b"", told(missing, "no such file")),
             ("neither", [option, missing, folder], b"", told(missing, "no such file")),
-            ("an issuer that is a CRL", [option, bad, file], b"", told(bad, NO_CERTIFICATE + WHOLE)),
+            ("an issuer that is a CRL", [option, bad, file], b"", told(bad, NO_CERTIFICATE + WHOLE + "something in it is wrong")),
             ("both on standard input", [option, "-", "-"], good, told("standard input", f"{NO_CERTIFICATE}; it is empty")),
             ("a long input", [option, issuer], b"\1" * 16777217, told("standard input", "longer than 16777216 bytes")),
             ("a kind in place of the issuer", [option, "certificate", folder], b"", told("certificate", "no such file")),
