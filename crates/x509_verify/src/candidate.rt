@@ -8,7 +8,7 @@ use x509_check::CertificateRef;
 use x509_match::MatchedName;
 
 /// A candidate for a path.
-#[derive(Debug, Drop)]
+#[derive(Debug)]
 pub(crate) struct Candidate<'a> {
     /// The certificate.
     pub(crate) certificate: CertificateRef<'a>,
@@ -24,6 +24,18 @@ pub(crate) struct Candidate<'a> {
 
     /// From when on it is valid.
     pub(crate) not_before: DateTime,
+}
+
+impl Drop for Candidate<'_> {
+    fn drop(self) {
+        let Candidate {
+            certificate: _,
+            issuer: _,
+            key_id: _,
+            issuer_key_id: _,
+            not_before: _,
+        } = self;
+    }
 }
 
 /// Where to begin with candidates of one name that may stand above a certificate: at the first one whose key has the identifier that

@@ -14,11 +14,20 @@ use x509_prim::BitString;
 ///     algorithm  AlgorithmIdentifier,
 ///     signature  BIT STRING }
 /// ```
-#[derive(Drop)]
 pub(crate) struct Signed {
     pub(crate) part: Any,
     pub(crate) algorithm: AlgorithmIdentifier,
     pub(crate) signature: BitString,
+}
+
+impl Drop for Signed {
+    fn drop(self) {
+        let Signed {
+            part: _,
+            algorithm: _,
+            signature: _,
+        } = self;
+    }
 }
 
 #[tactic(auto, unfolding(crate::specs::BuildSigned::signed_fields, x509_der::specs::Frames::fields_reading, x509_der::specs::Frames::fields_octets))]

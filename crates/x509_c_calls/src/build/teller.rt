@@ -11,10 +11,18 @@ use x509_der::{ErrorKind, TryClone};
 use x509_prim::BitString;
 
 /// A signer elsewhere: here are its algorithm and its public key, and it signs nothing.
-#[derive(Drop)]
 pub(crate) struct Teller {
     pub(crate) algorithm: AlgorithmIdentifier,
     pub(crate) key: SubjectPublicKeyInfo,
+}
+
+impl Drop for Teller {
+    fn drop(self) {
+        let Teller {
+            algorithm: _,
+            key: _,
+        } = self;
+    }
 }
 
 impl Signer for Teller {

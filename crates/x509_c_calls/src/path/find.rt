@@ -29,7 +29,6 @@ use x509_validation::{PathSettings, Trusted, ValidationFault};
 use x509_verify::{Anchors, FindError, Pool, SearchLimits, find_path};
 
 /// What is searched, taken from the bytes.
-#[derive(Drop)]
 struct Sought<'a> {
     /// What each anchor gives.
     trusted: Vec<Trusted<'a>>,
@@ -42,6 +41,17 @@ struct Sought<'a> {
 
     /// The signatures that don't hold.
     bad: Vec<BadSignature<'a>>,
+}
+
+impl Drop for Sought<'_> {
+    fn drop(self) {
+        let Sought {
+            trusted: _,
+            candidates: _,
+            leaf: _,
+            bad: _,
+        } = self;
+    }
 }
 
 /// What is trusted by the certificate of these bytes.

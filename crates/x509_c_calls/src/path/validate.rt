@@ -78,10 +78,18 @@ fn tell(
 }
 
 /// The policies that are named, and the content octets of another purpose.
-#[derive(Drop)]
 pub(crate) struct Named {
     pub policies: Option<CertificatePolicies>,
     pub own: Vec<u8>,
+}
+
+impl Drop for Named {
+    fn drop(self) {
+        let Named {
+            policies: _,
+            own: _,
+        } = self;
+    }
 }
 
 /// The content octets of the OIDs of the policies that are accepted, behind them those of the purposes of which one is asked for,
