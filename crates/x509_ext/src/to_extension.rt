@@ -6,7 +6,7 @@ ghost use Rattle.x509_ext.specs.ToExtension.{Makes};
 use crate::criticality::Criticality;
 use crate::extension::Extension;
 use std::alloc::Global;
-use x509_der::{AssociatedOid, Encode, Error, ObjectIdentifier, to_counted_der};
+use x509_der::{AssociatedOid, Encode, Error, ObjectIdentifier};
 use x509_name::name::Name;
 use x509_prim::OctetString;
 
@@ -37,11 +37,8 @@ pub trait ToExtension: Sized {
         ensures { makes self subject.now extensions.now result };
 }
 
-/// A payload of at most so many octets is encoded on the stack.
+/// A payload of at most so many octets is encoded on the stack; of a longer one the encoding is copied into memory of just its length.
 const MAX_SHORT: usize = 512;
-
-/// So is one of at most so many, in a second try; a longer one is counted first. The extension takes memory for just its length.
-const MAX_ON_STACK: usize = 4096;
 
 /// The extension that holds the encoding of the value, of more than [`MAX_SHORT`] octets, or why there is none.
 #[inline(never)]
@@ -53,18 +50,11 @@ fn hold_long<T: Encode>(
 ) -> Result<Extension, Error>
     ensures { Makes extn_id critical T.form (writes T.writing payload.now) result }
 {
-    let mut long = [0; MAX_ON_STACK];
-    if let Ok(octets) = payload.encode_to_slice(&mut long) {
-        return Ok(Extension {
-            extn_id,
-            critical,
-            extn_value: OctetString::new(alloc, octets)?,
-        });
-    }
+    let octets = payload.to_der(alloc)?;
     Ok(Extension {
         extn_id,
         critical,
-        extn_value: OctetString::from_vec(to_counted_der(payload, alloc)?)?,
+        extn_value: OctetString::new(alloc, octets.as_slice())?,
     })
 }
 
