@@ -16,6 +16,8 @@ mod issuers;
 #[cfg(test)]
 mod lent;
 #[cfg(test)]
+mod lints;
+#[cfg(test)]
 mod long_lists;
 #[cfg(test)]
 mod look_ups;

@@ -5,3 +5,8 @@ pub mod Looking
 pub mod Elements
 pub mod Entries
 pub mod Fields
+pub mod LeftOut
+pub mod Passed
+pub mod KeptLists
+pub mod Distinct
+pub mod SerialWalks

@@ -1,18 +1,22 @@
 -- The rules on the extensions of a CRL's entries (RFC 5280 5.3): what breaks each, their order, and how each is told.
-use Rattle.std.specs.Prelude.{◌&&◌, ◌||◌, ℕ, Bool, not, List, [], ◌∷◌, Option, bytes_eq, codes, length, nat_le, take, drop, ◌==◌}
+use Rattle.std.specs.Prelude.{◌≡◌, ◌&&◌, ◌||◌, ℕ, Bool, true, not, List, [], ◌∷◌, Option, bytes_eq, codes, is_some, length, nat_le, take, drop, ◌==◌}
 use Rattle.std.specs.List.{list_all, list_any}
 use Rattle.x509_base.specs.CivilTime.{CivilTime, days_in_month}
 use Rattle.x509_base.specs.TimeReading.{is_in_range, named_generalized_time}
+use Rattle.x509_base.specs.declared.profile.Raw.{Raw}
+use Rattle.x509_cert.specs.declared.crl.revoked_cert.RevokedCert.{RevokedCert}
 use Rattle.x509_ext.specs.Identifiers.{id_ce}
 use Rattle.x509_ext.specs.LookUp.{members}
 use Rattle.x509_ext.specs.declared.extension.Extension.{Extension}
 use Rattle.x509_ext.specs.declared.pkix.issuing_distribution_point.IssuingDistributionPoint.{IssuingDistributionPoint}
-use Rattle.x509_lint.specs.CrlField.{has_entry}
 use Rattle.x509_lint.specs.Text.{is_digit}
-use Rattle.x509_lint.specs.Words.{Crl, crl_extensions_of, has, is_of, passes}
+use Rattle.x509_lint.specs.Words.{Crl, crl_extensions_of, has, is_early_general, is_empty, is_of, passes}
+use Rattle.x509_lint.specs.declared.entries.EntryFindings.{EntryFindings}
 use Rattle.x509_lint.specs.declared.entries.EntryFault.{EntryFault}
 use Rattle.x509_lint.specs.declared.entries.EntryFault.TheVariants.{ReasonCritical, ReasonUnspecified, ReasonRemoveFromCrl, ReasonInvalid, InvalidityDateCritical, InvalidityDateInvalid, IssuerNotCritical, Issuer}
-use Rattle.x509_lint.specs.declared.values.CrlValues.{CrlValues}
+use Rattle.x509_lint.specs.declared.entries.EntryTest.{EntryTest}
+use Rattle.x509_lint.specs.declared.entries.EntryTest.TheVariants.{There, Extended, WithoutExtensions, EarlyGeneral, Faulty}
+use Rattle.x509_lint.specs.declared.crl.CrlParts.{CrlParts}
 use Rattle.x509_lint.specs.declared.rule.crl_entry.CrlEntryRule.{CrlEntryRule}
 use Rattle.x509_lint.specs.declared.rule.crl_entry.CrlEntryRule.TheVariants as rules
 use Rattle.x509_lint.specs.Sentence.{Sentence, must, should}
@@ -51,9 +55,36 @@ is_faulty InvalidityDateInvalid e = is_of (id_ce 24) e && not (is_date e.extn_va
 is_faulty IssuerNotCritical e = is_of (id_ce 29) e && not e.critical
 is_faulty Issuer e = is_of (id_ce 29) e
 
+-- the entry passes the test
+abbrev pub entry_passes : EntryTest → RevokedCert Raw → Bool
+entry_passes There e = true
+entry_passes Extended e = is_some e.crl_entry_extensions
+entry_passes WithoutExtensions e = passes is_empty e.crl_entry_extensions
+entry_passes EarlyGeneral e = is_early_general e.revocation_date
+entry_passes (Faulty fault) e = list_any (is_faulty fault) (members e.crl_entry_extensions)
+
+-- what was noted of the test
+abbrev pub is_noted : EntryFindings → EntryTest → Bool
+is_noted f There = f.is_there
+is_noted f Extended = f.is_extended
+is_noted f WithoutExtensions = f.is_without_extensions
+is_noted f EarlyGeneral = f.is_early_general
+is_noted f (Faulty ReasonCritical) = f.is_reason_critical
+is_noted f (Faulty ReasonUnspecified) = f.is_reason_unspecified
+is_noted f (Faulty ReasonRemoveFromCrl) = f.is_reason_remove_from_crl
+is_noted f (Faulty ReasonInvalid) = f.is_reason_invalid
+is_noted f (Faulty InvalidityDateCritical) = f.is_invalidity_date_critical
+is_noted f (Faulty InvalidityDateInvalid) = f.is_invalidity_date_invalid
+is_noted f (Faulty IssuerNotCritical) = f.is_issuer_not_critical
+is_noted f (Faulty Issuer) = f.is_issuer
+
+-- what is noted of entries: of each test whether one of them passes it
+unfoldable pub AreNoted : List (RevokedCert Raw) → EntryFindings → Type 0
+AreNoted entries found = (test : EntryTest) → is_noted found test ≡ list_any (entry_passes test) entries
+
 -- an extension of an entry has the fault
-abbrev pub has_fault : Crl → EntryFault → Bool
-has_fault l fault = has_entry (λ e. list_any (is_faulty fault) (members e.crl_entry_extensions)) l
+abbrev pub has_fault : CrlParts → EntryFault → Bool
+has_fault parts fault = is_noted parts.facts.entries.found (Faulty fault)
 
 -- there is no IssuingDistributionPoint, or the one that there is is read and doesn't set indirectCRL
 abbrev pub is_direct : List Extension → Option IssuingDistributionPoint → Bool
@@ -72,28 +103,28 @@ crl_entry_rules =
     ∷ rules.EntryCertificateIssuerNotCritical
     ∷ rules.EntryCertificateIssuerNotIndirect ∷ []
 
-abbrev pub crl_entry_sentence : CrlEntryRule → Sentence Crl CrlValues
+abbrev pub crl_entry_sentence : CrlEntryRule → Sentence Crl CrlParts
 crl_entry_sentence rules.EntryReasonCritical =
     must (codes "entry_reason_critical") (codes "5.3.1") (codes "tbsCertList.revokedCertificates.crlEntryExtensions.reasonCode")
-    (λ l v. has_fault l ReasonCritical)
+    (λ l parts. has_fault parts ReasonCritical)
 crl_entry_sentence rules.EntryReasonUnspecified =
     should (codes "entry_reason_unspecified") (codes "5.3.1") (codes "tbsCertList.revokedCertificates.crlEntryExtensions.reasonCode")
-    (λ l v. has_fault l ReasonUnspecified)
+    (λ l parts. has_fault parts ReasonUnspecified)
 crl_entry_sentence rules.EntryReasonRemoveFromCrl =
     must (codes "entry_reason_remove_from_crl") (codes "5.3.1") (codes "tbsCertList.revokedCertificates.crlEntryExtensions.reasonCode")
-    (λ l v. has_fault l ReasonRemoveFromCrl && not (has (id_ce 27) (crl_extensions_of l)))
+    (λ l parts. has_fault parts ReasonRemoveFromCrl && not (has (id_ce 27) (crl_extensions_of l)))
 crl_entry_sentence rules.EntryReasonInvalid =
     must (codes "entry_reason_invalid") (codes "5.3.1") (codes "tbsCertList.revokedCertificates.crlEntryExtensions.reasonCode")
-    (λ l v. has_fault l ReasonInvalid)
+    (λ l parts. has_fault parts ReasonInvalid)
 crl_entry_sentence rules.EntryInvalidityDateCritical =
     must (codes "entry_invalidity_date_critical") (codes "5.3.2") (codes "tbsCertList.revokedCertificates.crlEntryExtensions.invalidityDate")
-    (λ l v. has_fault l InvalidityDateCritical)
+    (λ l parts. has_fault parts InvalidityDateCritical)
 crl_entry_sentence rules.EntryInvalidityDateInvalid =
     must (codes "entry_invalidity_date_invalid") (codes "5.3.2") (codes "tbsCertList.revokedCertificates.crlEntryExtensions.invalidityDate")
-    (λ l v. has_fault l InvalidityDateInvalid)
+    (λ l parts. has_fault parts InvalidityDateInvalid)
 crl_entry_sentence rules.EntryCertificateIssuerNotCritical =
     must (codes "entry_certificate_issuer_not_critical") (codes "5.3.3") (codes "tbsCertList.revokedCertificates.crlEntryExtensions.certificateIssuer")
-    (λ l v. has_fault l IssuerNotCritical)
+    (λ l parts. has_fault parts IssuerNotCritical)
 crl_entry_sentence rules.EntryCertificateIssuerNotIndirect =
     must (codes "entry_certificate_issuer_not_indirect") (codes "5.3.3") (codes "tbsCertList.revokedCertificates.crlEntryExtensions.certificateIssuer")
-    (λ l v. has_fault l Issuer && is_direct (crl_extensions_of l) v.issuing_distribution_point)
+    (λ l parts. has_fault parts Issuer && is_direct (crl_extensions_of l) parts.values.issuing_distribution_point)

@@ -1,18 +1,16 @@
 -- The rules on the fields of a CRL (RFC 5280 5.1): what breaks each, their order, and how each is told.
 use Rattle.std.specs.Prelude.{◌&&◌, ◌||◌, ℕ, Bool, true, false, not, List, [], ◌∷◌, codes, is_some}
-use Rattle.std.specs.List.{list_any}
-use Rattle.x509_cert.specs.Revoked.{entries}
-use Rattle.x509_base.specs.declared.profile.Raw.{Raw}
 use Rattle.x509_cert.specs.declared.certificate.version.Version.{Version}
 use Rattle.x509_cert.specs.declared.certificate.version.Version.TheVariants.{V1, V2, V3}
-use Rattle.x509_cert.specs.declared.crl.revoked_cert.RevokedCert.{RevokedCert}
-use Rattle.x509_ext.specs.Identifiers.{id_ce}
-use Rattle.x509_ext.specs.LookUp.{members}
+use Rattle.x509_lint.specs.CrlEntry.{is_noted}
 use Rattle.x509_lint.specs.Name.{has_empty_rdn, has_no_country}
 use Rattle.x509_lint.specs.Read.{is_crl_read}
 use Rattle.x509_lint.specs.Text.{has_faulty_text}
 use Rattle.x509_lint.specs.declared.texts.TextFault.TheVariants.{OtherType, OldType, OtherCharacter, Size, Label}
-use Rattle.x509_lint.specs.Words.{Crl, has, is_before, is_early_general, is_empty, passes}
+use Rattle.x509_lint.specs.Words.{Crl, is_before, is_early_general, is_empty, passes}
+use Rattle.x509_lint.specs.declared.entries.EntryFault.TheVariants.{Issuer}
+use Rattle.x509_lint.specs.declared.entries.EntryTest.{EntryTest}
+use Rattle.x509_lint.specs.declared.entries.EntryTest.TheVariants.{There, Extended, WithoutExtensions, EarlyGeneral, Faulty}
 use Rattle.x509_lint.specs.declared.facts.CrlFacts.{CrlFacts}
 use Rattle.x509_lint.specs.declared.rule.crl_field.CrlExtensionKind.{CrlExtensionKind}
 use Rattle.x509_lint.specs.declared.rule.crl_field.CrlExtensionKind.TheVariants as kinds
@@ -28,11 +26,11 @@ is_v2 V2 = true
 is_v2 V3 = false
 
 -- an entry passes the test
-abbrev pub has_entry : (RevokedCert Raw → Bool) → Crl → Bool
-has_entry test l = list_any test (entries l.tbs_cert_list.revoked_certificates)
+abbrev pub has_entry : EntryTest → CrlFacts → Bool
+has_entry test facts = is_noted facts.entries.found test
 
-abbrev pub has_extensions : Crl → Bool
-has_extensions l = is_some l.tbs_cert_list.crl_extensions || has_entry (λ e. is_some e.crl_entry_extensions) l
+abbrev pub has_extensions : Crl → CrlFacts → Bool
+has_extensions l facts = is_some l.tbs_cert_list.crl_extensions || has_entry Extended facts
 
 -- ---- the rules, in their order
 
@@ -66,7 +64,7 @@ crl_field_sentence rules.SignatureAlgorithmsDiffer =
     (λ l facts. facts.algorithms_differ)
 crl_field_sentence rules.ExtensionsWithoutV2 =
     must (codes "extensions_without_v2") (codes "5.1.2.1") (codes "tbsCertList.version")
-    (λ l facts. has_extensions l && not (passes is_v2 l.tbs_cert_list.version))
+    (λ l facts. has_extensions l facts && not (passes is_v2 l.tbs_cert_list.version))
 crl_field_sentence rules.VersionNotV2 =
     must (codes "version_not_v2") (codes "5.1.2.1") (codes "tbsCertList.version")
     (λ l facts. passes (λ version. not (is_v2 version)) l.tbs_cert_list.version)
@@ -111,13 +109,13 @@ crl_field_sentence rules.NextUpdateBeforeThisUpdate =
     (λ l facts. passes (λ next. is_before next l.tbs_cert_list.this_update) l.tbs_cert_list.next_update)
 crl_field_sentence rules.RevokedCertificatesEmpty =
     must (codes "revoked_certificates_empty") (codes "5.1.2.6") (codes "tbsCertList.revokedCertificates")
-    (λ l facts. passes is_empty l.tbs_cert_list.revoked_certificates)
+    (λ l facts. is_some l.tbs_cert_list.revoked_certificates && not (has_entry There facts))
 crl_field_sentence rules.SerialNumberRepeated =
     must (codes "serial_number_repeated") (codes "5.1.2.6") (codes "tbsCertList.revokedCertificates.userCertificate")
-    (λ l facts. not facts.are_serials_distinct && not (has_entry (λ e. has (id_ce 29) (members e.crl_entry_extensions)) l))
+    (λ l facts. not facts.entries.are_serials_distinct && not (has_entry (Faulty Issuer) facts))
 crl_field_sentence rules.RevocationDateNotUtcTime =
     must (codes "revocation_date_not_utc_time") (codes "5.1.2.6") (codes "tbsCertList.revokedCertificates.revocationDate")
-    (λ l facts. has_entry (λ e. is_early_general e.revocation_date) l)
+    (λ l facts. has_entry EarlyGeneral facts)
 crl_field_sentence rules.ExtensionsEmpty =
     must (codes "extensions_empty") (codes "5.1.2.7") (codes "tbsCertList.crlExtensions")
     (λ l facts. passes is_empty l.tbs_cert_list.crl_extensions)
@@ -155,7 +153,7 @@ crl_entry_list_rules =
 abbrev pub crl_entry_list_sentence : CrlEntryListRule → Sentence Crl CrlFacts
 crl_entry_list_sentence lists.EntryExtensionsEmpty =
     must (codes "entry_extensions_empty") (codes "5.3") (codes "tbsCertList.revokedCertificates.crlEntryExtensions")
-    (λ l facts. has_entry (λ e. passes is_empty e.crl_entry_extensions) l)
+    (λ l facts. has_entry WithoutExtensions facts)
 crl_entry_list_sentence lists.EntryExtensionRepeated =
     must (codes "entry_extension_repeated") (codes "5.3") (codes "tbsCertList.revokedCertificates.crlEntryExtensions")
-    (λ l facts. not facts.are_entries_distinct)
+    (λ l facts. not facts.entries.are_distinct)

@@ -10,9 +10,10 @@ pub mod Beyond
 pub mod Place
 pub mod Read
 pub mod PublicKey
+pub mod Text
+pub mod CrlEntry
 pub mod Values
 pub mod Field
-pub mod Text
 pub mod Name
 pub mod List
 pub mod Critical
@@ -24,7 +25,6 @@ pub mod Constraint
 pub mod Point
 pub mod CrlField
 pub mod CrlExtension
-pub mod CrlEntry
 pub mod Request
 pub mod Anchor
 pub mod Seen

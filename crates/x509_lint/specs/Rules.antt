@@ -4,6 +4,7 @@ use Rattle.x509_base.specs.declared.profile.Raw.{Raw}
 use Rattle.x509_cert.specs.declared.anchor.trust_anchor_choice.TrustAnchorChoice.{TrustAnchorChoice}
 use Rattle.x509_cert.specs.declared.anchor.trust_anchor_choice.TrustAnchorChoice.TheVariants as anchors
 use Rattle.x509_cert.specs.declared.request.cert_req.CertReq.{CertReq}
+use Rattle.x509_crl_index.specs.Split.{without_entries}
 use Rattle.x509_lint.specs.Alternative as alternative
 use Rattle.x509_lint.specs.Anchor as anchor
 use Rattle.x509_lint.specs.Authority as authority
@@ -20,8 +21,9 @@ use Rattle.x509_lint.specs.Point as point
 use Rattle.x509_lint.specs.Policy as policy
 use Rattle.x509_lint.specs.PublicKey as public_key
 use Rattle.x509_lint.specs.Request as request
-use Rattle.x509_lint.specs.Values.{AreCertificateParts, AreCrlParts, CertificateParts, CrlParts}
+use Rattle.x509_lint.specs.Values.{AreCertificateParts, AreCrlParts, CertificateParts}
 use Rattle.x509_lint.specs.Words.{Certificate, Crl}
+use Rattle.x509_lint.specs.declared.crl.CrlParts.{CrlParts}
 use Rattle.x509_lint.specs.Wording.{Wording}
 use Rattle.x509_lint.specs.declared.anchor.values.AnchorValues.{AnchorValues}
 use Rattle.x509_lint.specs.declared.request.values.RequestValues.{RequestValues}
@@ -95,11 +97,12 @@ crl_breaks l parts (CrlField rule) = (crl_field.crl_field_sentence rule).breaks 
 crl_breaks l parts (CrlExtensionMalformed rule) = (crl_field.crl_malformed_sentence rule).breaks l parts.facts
 crl_breaks l parts (CrlEntryList rule) = (crl_field.crl_entry_list_sentence rule).breaks l parts.facts
 crl_breaks l parts (CrlExtension rule) = (crl_extension.crl_extension_sentence rule).breaks l parts.values
-crl_breaks l parts (CrlEntry rule) = (crl_entry.crl_entry_sentence rule).breaks l parts.values
+crl_breaks l parts (CrlEntry rule) = (crl_entry.crl_entry_sentence rule).breaks l parts
 crl_breaks l parts _ = false
 
+-- no rule looks at the entries but by what was asked of them once
 abbrev pub AreCrlFindings : Crl → List Rule → Type 0
-AreCrlFindings l findings = (parts : CrlParts) × AreCrlParts l parts × (findings ≡ filter (crl_breaks l parts) crl_rules)
+AreCrlFindings l findings = (parts : CrlParts) × AreCrlParts l parts × (findings ≡ filter (crl_breaks (without_entries l) parts) crl_rules)
 
 -- ---- CSRs (RFC 2986 4.1, RFC 2985 5.4)
 

@@ -84,9 +84,12 @@ abbrev pub certificate_seen : Certificate → Rule → List ℕ
 certificate_seen c rule = signed_seen c.tbs_certificate rule
 
 -- of a CRL the octets of an extension that can't be read
+abbrev pub crl_seen_among : List Extension → Rule → List ℕ
+crl_seen_among extensions (rules.CrlExtensionMalformed kind) = value_seen (crl_extension_oid kind) extensions
+crl_seen_among extensions other = []
+
 abbrev pub crl_seen : Crl → Rule → List ℕ
-crl_seen l (rules.CrlExtensionMalformed kind) = value_seen (crl_extension_oid kind) (crl_extensions_of l)
-crl_seen l other = []
+crl_seen l rule = crl_seen_among (crl_extensions_of l) rule
 
 -- of a CSR the octets of an extension that is asked for and can't be read
 abbrev pub request_seen : CertReq → Rule → List ℕ

@@ -14,6 +14,7 @@ use Rattle.x509_ext.specs.declared.extension.Extension.{Extension}
 use Rattle.x509_cert.specs.Revoked.{entries}
 use Rattle.x509_base.specs.declared.profile.Raw.{Raw}
 use Rattle.x509_cert.specs.declared.crl.revoked_cert.RevokedCert.{RevokedCert}
+use Rattle.x509_crl_index.specs.Split.{serials}
 use Rattle.x509_ext.specs.CrlNumber.{crl_number}
 use Rattle.x509_ext.specs.DistributionPoint.{crl_distribution_points, freshest_crl}
 use Rattle.x509_ext.specs.IssuingDistributionPoint.{issuing_distribution_point}
@@ -27,6 +28,7 @@ use Rattle.x509_der.specs.Set.{AreDistinct}
 use Rattle.x509_name.specs.declared.attr.type_and_value.AttributeTypeAndValue.{AttributeTypeAndValue}
 use Rattle.x509_ext.specs.PolicyMapping.{policy_mappings}
 use Rattle.x509_lint.specs.BasicConstraints.{any_basic_constraints}
+use Rattle.x509_lint.specs.CrlEntry.{AreNoted}
 use Rattle.x509_lint.specs.Notices.{has_faulty_notice}
 use Rattle.x509_lint.specs.declared.notices.NoticeFault.TheVariants.{Long, NoText, OldType, Ia5Type, Control, Reference, Unnormalized, Unread}
 use Rattle.x509_lint.specs.SkipCerts.{any_policy_constraints}
@@ -34,6 +36,8 @@ use Rattle.x509_lint.specs.PublicKey.{numbers}
 use Rattle.x509_lint.specs.Read.{AreExtensionsRead, IsCrlRead}
 use Rattle.x509_lint.specs.Words.{Certificate, Crl, IsSpelled, IsValue, crl_extensions_of, extensions_of, passes}
 use Rattle.x509_lint.specs.declared.facts.CertificateFacts.{CertificateFacts}
+use Rattle.x509_lint.specs.declared.crl.CrlParts.{CrlParts}
+use Rattle.x509_lint.specs.declared.entries.EntryFacts.{EntryFacts}
 use Rattle.x509_lint.specs.declared.facts.CrlFacts.{CrlFacts}
 use Rattle.x509_lint.specs.declared.values.AlternativeValues.{AlternativeValues}
 use Rattle.x509_lint.specs.declared.values.AuthorityValues.{AuthorityValues}
@@ -46,10 +50,7 @@ use Rattle.x509_lint.specs.declared.values.PublicKeyValues.{PublicKeyValues}
 
 -- ---- what may stand twice
 
--- the serial numbers of entries, and the OIDs of policies, in their order
-abbrev pub serials : List (RevokedCert Raw) → List (List ℕ)
-serials entries = map (λ (e : RevokedCert Raw). e.serial_number) entries
-
+-- the OIDs of policies, in their order
 abbrev pub policy_identifiers : List PolicyInformation → List (List ℕ)
 policy_identifiers policies = map (λ (p : PolicyInformation). p.policy_identifier) policies
 
@@ -147,14 +148,20 @@ AreCertificateFacts c facts =
     × (IsTrue facts.is_issuer_distinct ↔ All HasDistinctTypes c.tbs_certificate.issuer)
     × (IsTrue facts.is_subject_distinct ↔ All HasDistinctTypes c.tbs_certificate.subject)
 
-abbrev pub AreCrlFacts : Crl → CrlFacts → Type 0
-AreCrlFacts l facts =
+abbrev pub AreEntryFacts : List (RevokedCert Raw) → EntryFacts → Type 0
+AreEntryFacts revoked facts =
+    AreNoted revoked facts.found × (IsTrue facts.are_distinct ↔ All IsDistinct revoked) × (IsTrue facts.are_serials_distinct ↔ AreDistinct (serials revoked))
+
+-- of a CRL, its entries aside
+abbrev pub AreFrontFacts : Crl → CrlFacts → Type 0
+AreFrontFacts l facts =
     (IsTrue facts.algorithms_differ ↔ (l.tbs_cert_list.signature ≢ l.signature_algorithm))
     × (IsTrue facts.is_repeated ↔ IsRepeated (crl_extensions_of l))
     × IsCrlRead (crl_extensions_of l) facts.read
-    × (IsTrue facts.are_serials_distinct ↔ AreDistinct (serials (entries l.tbs_cert_list.revoked_certificates)))
-    × (IsTrue facts.are_entries_distinct ↔ All IsDistinct (entries l.tbs_cert_list.revoked_certificates))
     × (IsTrue facts.is_issuer_distinct ↔ All HasDistinctTypes l.tbs_cert_list.issuer)
+
+abbrev pub AreCrlFacts : Crl → CrlFacts → Type 0
+AreCrlFacts l facts = AreFrontFacts l facts × AreEntryFacts (entries l.tbs_cert_list.revoked_certificates) facts.entries
 
 -- ---- all of it
 
@@ -173,10 +180,6 @@ AreCertificateParts c parts =
     AreCertificateFacts c parts.facts × AreAuthorityValues (extensions_of c) parts.authority × AreKeyValues (extensions_of c) parts.key
     × AreAlternativeValues (extensions_of c) parts.alternative × ArePolicyValues (extensions_of c) parts.policy
     × AreConstraintValues (extensions_of c) parts.constraint × ArePointValues (extensions_of c) parts.point × ArePublicKeyValues c parts.public_key
-
-pub record CrlParts : Type 0 where
-  pub facts : CrlFacts
-  pub values : CrlValues
 
 abbrev pub AreCrlParts : Crl → CrlParts → Type 0
 AreCrlParts l parts = AreCrlFacts l parts.facts × AreCrlValues (crl_extensions_of l) parts.values

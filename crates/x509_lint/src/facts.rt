@@ -3,12 +3,12 @@
 ghost use Rattle.std.specs.List.{All};
 ghost use Rattle.std.specs.Prelude.{◌≡◌, ◌≢◌, ◌↔◌, IsTrue, IfOk, IfErr};
 ghost use Rattle.x509_der.specs.declared.error.ErrorKind.TheVariants.{Memory};
-ghost use Rattle.x509_lint.specs.Values.{AreCertificateFacts, AreCrlFacts, HasDistinctTypes};
+ghost use Rattle.x509_lint.specs.Values.{AreCertificateFacts, AreFrontFacts, HasDistinctTypes};
 
-use crate::entries::are_entries_distinct;
+use crate::entries::EntryFacts;
 use crate::extensions::extensions_of;
 use crate::read::{CrlRead, ExtensionsRead, crl_read, extensions_read};
-use crate::repeats::{are_serials_distinct, is_distinct_name};
+use crate::repeats::is_distinct_name;
 use std::alloc::Global;
 use x509_base::Raw;
 use x509_base::laws::equality_of_keys_is_exact;
@@ -48,14 +48,11 @@ pub(crate) struct CrlFacts {
     /// Which types of extensions are read.
     pub(crate) read: CrlRead,
 
-    /// No two entries have one serial number.
-    pub(crate) are_serials_distinct: bool,
-
-    /// No two extensions of one entry have one OID.
-    pub(crate) are_entries_distinct: bool,
-
     /// No RDN of the issuer has two attributes of one type.
     pub(crate) is_issuer_distinct: bool,
+
+    /// What is asked of the entries.
+    pub(crate) entries: EntryFacts,
 }
 
 fn do_algorithms_differ(certificate: &CertificateInner<Raw>) -> bool
@@ -109,24 +106,25 @@ pub(crate) fn certificate_facts(
     })
 }
 
-/// The facts of a CRL.
-pub(crate) fn crl_facts(alloc: Global, crl: &CertificateList<Raw>) -> Result<CrlFacts, Error>
-    ensures ok { IfOk result (AreCrlFacts crl.now) }
+/// The facts of a CRL, of whose entries these are the facts.
+pub(crate) fn crl_facts(
+    alloc: Global,
+    crl: &CertificateList<Raw>,
+    entries: EntryFacts,
+) -> Result<CrlFacts, Error>
+    ensures ok { IfOk result (λ facts. AreFrontFacts crl.now facts × (facts.entries ≡ entries)) }
     ensures err { IfErr result (λ e. e.kind ≡ Memory) }
 {
     let algorithms_differ = do_crl_algorithms_differ(crl);
     let extensions = members(crl.tbs_cert_list.crl_extensions.as_ref());
     let is_repeated = has_repeated_extension(alloc, extensions)?;
     let read = crl_read(alloc, extensions)?;
-    let are_serials_distinct = are_serials_distinct(alloc, crl.tbs_cert_list.entries())?;
-    let are_entries_distinct = are_entries_distinct(alloc, crl.tbs_cert_list.entries())?;
     let is_issuer_distinct = is_distinct_name(alloc, &crl.tbs_cert_list.issuer)?;
     Ok(CrlFacts {
         algorithms_differ,
         is_repeated,
         read,
-        are_serials_distinct,
-        are_entries_distinct,
         is_issuer_distinct,
+        entries,
     })
 }

@@ -2,9 +2,10 @@
 
 ghost use Rattle.std.specs.List.{All};
 ghost use Rattle.std.specs.Prelude.{◌≡◌, ◌↔◌, IfErr, IfOk, IsTrue};
+ghost use Rattle.x509_crl_index.specs.Split.{serials};
 ghost use Rattle.x509_der.specs.declared.error.ErrorKind.TheVariants.{Memory};
 ghost use Rattle.x509_der.specs.Set.{AreDistinct};
-ghost use Rattle.x509_lint.specs.Values.{HasDistinctTypes, policies_of, policy_identifiers, rdn_types, serials};
+ghost use Rattle.x509_lint.specs.Values.{HasDistinctTypes, policies_of, policy_identifiers, rdn_types};
 
 use std::alloc::Global;
 use x509_base::{Raw, SerialNumber};

@@ -1,15 +1,18 @@
 //! What is said of an object: a line for each finding.
 
 ghost use Rattle.std.specs.List.{list_any};
-ghost use Rattle.std.specs.Prelude.{◌≡◌, ◌++◌, IfErr, IfOk, OnOk, string_bytes};
+ghost use Rattle.std.specs.Prelude.{◌≡◌, ◌++◌, IfErr, IfOk, IsOk, OnOk, codes, string_bytes};
+ghost use Rattle.x509_cert.specs.CertificateList.{certificate_list};
+ghost use Rattle.x509_crl_index.specs.Split.{read_entries};
 ghost use Rattle.x509_der.specs.declared.error.ErrorKind.TheVariants.{Memory};
 ghost use Rattle.x509_lint.specs.Report as grammar;
-ghost use Rattle.x509_lint.specs.Rules.{rule_wording};
+ghost use Rattle.x509_lint.specs.Rules.{AreCrlFindings, rule_wording};
+ghost use Rattle.x509_lint.specs.Seen.{crl_seen};
 ghost use Rattle.x509_lint.specs.Wording.{Says, Wording, which_text};
 
 use crate::anchor::lint_anchor;
 use crate::certificate::lint_certificate;
-use crate::crl::lint_crl;
+use crate::crl::lint_split;
 use crate::entry::{Entry, Severity};
 use crate::lists::{Test, any_of};
 use crate::request::lint_request;
@@ -21,7 +24,8 @@ use x509_cert::anchor::TrustAnchorChoice;
 use x509_cert::certificate::CertificateInner;
 use x509_cert::crl::CertificateList;
 use x509_cert::request::CertReq;
-use x509_der::{Decode, Error, ErrorKind};
+use x509_crl_index::split_crl;
+use x509_der::{Decode, Error, ErrorKind, Length};
 
 /// A kind of object.
 #[derive(Clone, Copy, Debug, PartialEq, Eq)]
@@ -113,27 +117,54 @@ impl Linted for CertificateInner<Raw> {
     }
 }
 
-impl Linted for CertificateList<Raw> {
-    ghost use Rattle.std.specs.Prelude.{codes};
+/// A CRL without its entries, and the elements of these, one after the other.
+struct SplitCrl<'a> {
+    front: CertificateList<Raw>,
+    octets: &'a [u8],
+    ghost are_entries: { IsOk (read_entries octets.now) },
+}
+
+impl Drop for SplitCrl<'_> {
+    fn drop(self) {
+        let SplitCrl {
+            front: _,
+            octets: _,
+        } = self;
+    }
+}
+
+impl Linted for SplitCrl<'_> {
+    ghost use Rattle.std.specs.Prelude.{◌≡◌, IfErr, IfOk, codes, string_bytes};
+    ghost use Rattle.x509_base.specs.declared.profile.Raw.{Raw};
+    ghost use Rattle.x509_cert.specs.declared.crl.certificate_list.CertificateList as lists;
+    ghost use Rattle.x509_crl_index.specs.Split.{IsSplit};
+    ghost use Rattle.x509_der.specs.declared.error.ErrorKind.TheVariants.{Memory};
     ghost use Rattle.x509_lint.specs.Rules.{AreCrlFindings};
     ghost use Rattle.x509_lint.specs.Seen.{crl_seen};
 
     ghost word = { codes "crl" };
 
-    ghost are_findings = { AreCrlFindings };
+    ghost are_findings = { λ split findings. (list : lists.CertificateList Raw) → IsSplit list split.front split.octets.now → AreCrlFindings list findings };
 
-    ghost seen = { crl_seen };
+    ghost seen = { λ split. crl_seen split.front };
 
-    fn word() -> &'static str {
+    fn word() -> &'static str
+        ensures { result.now ≡ codes "crl" }
+    {
         "crl"
     }
 
-    fn findings(&self, alloc: Global) -> Result<Vec<Rule>, Error> {
-        lint_crl(alloc, self)
+    fn findings(&self, alloc: Global) -> Result<Vec<Rule>, Error>
+        ensures ok { IfOk result (λ findings. (list : lists.CertificateList Raw) → IsSplit list self.now.front self.now.octets.now → AreCrlFindings list findings.items) }
+        ensures err { IfErr result (λ e. e.kind ≡ Memory) }
+    {
+        lint_split(alloc, &self.front, self.octets)
     }
 
-    fn seen(&self, alloc: Global, rule: Rule) -> Result<String, AllocError> {
-        crl_seen(alloc, self, rule)
+    fn seen(&self, alloc: Global, rule: Rule) -> Result<String, AllocError>
+        ensures { IfOk result (λ text. string_bytes text ≡ crl_seen self.now.front rule) }
+    {
+        crl_seen(alloc, &self.front, rule)
     }
 }
 
@@ -315,6 +346,26 @@ fn lint_as<T: Decode + Linted + Drop>(
     }
 }
 
+/// What is said of the CRL whose encoding the bytes are. Of its entries one is decoded at a time.
+fn lint_list(alloc: Global, style: Style<'_>, bytes: &[u8]) -> Result<Option<Report>, Error>
+    ensures ok { IfOk result (grammar.IsSaid (certificate_list grammar.any_serial_number) (codes "crl") AreCrlFindings crl_seen (grammar.front_of style.entry) bytes.now) }
+    ensures err { IfErr result (λ e. e.kind ≡ Memory) }
+{
+    if bytes.len() > Length::MAX.as_u32() as usize {
+        return Ok(None);
+    }
+    match split_crl(alloc, bytes) {
+        Ok((front, octets)) => {
+            let crl = SplitCrl { front, octets };
+            Ok(Some(report_of(alloc, style, &crl)?))
+        }
+        Err(e) => match e.kind() {
+            ErrorKind::Memory => Err(ErrorKind::Memory.into()),
+            _ => Ok(None),
+        },
+    }
+}
+
 /// What is said of the object of this kind whose encoding the bytes are; `None` exactly where they are that of none.
 ///
 /// # Errors
@@ -332,7 +383,7 @@ pub fn lint_kind(
 {
     match kind {
         Kind::Certificate => lint_as::<CertificateInner<Raw>>(alloc, style, bytes),
-        Kind::Crl => lint_as::<CertificateList<Raw>>(alloc, style, bytes),
+        Kind::Crl => lint_list(alloc, style, bytes),
         Kind::Csr => lint_as::<CertReq>(alloc, style, bytes),
         Kind::Anchor => lint_as::<TrustAnchorChoice<Raw>>(alloc, style, bytes),
     }

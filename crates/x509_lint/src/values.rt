@@ -3,7 +3,9 @@
 
 ghost use Rattle.std.specs.Prelude.{◌≡◌, IfOk, IfErr};
 ghost use Rattle.x509_der.specs.declared.error.ErrorKind.TheVariants.{Memory};
+ghost use Rattle.x509_lint.specs.Notices.{has_faulty_notice};
 ghost use Rattle.x509_lint.specs.Values.{AreAlternativeValues, AreAuthorityValues, AreConstraintValues, AreCrlValues, AreKeyValues, ArePointValues, ArePolicyValues, ArePublicKeyValues};
+ghost use Rattle.x509_lint.specs.declared.notices.NoticeFault.TheVariants.{Long, NoText, OldType, Ia5Type, Control, Reference, Unnormalized, Unread};
 
 use crate::asserted::has_unasserted;
 use crate::basic_constraints::AnyBasicConstraints;
@@ -169,24 +171,49 @@ impl Drop for PolicyValues {
     }
 }
 
+/// Which faults some user notice among the qualifiers has; each as in [`PolicyValues`].
+#[derive(Clone, Copy)]
+struct NoticeFaults {
+    has_long_text: bool,
+    has_empty_text: bool,
+    has_old_text: bool,
+    has_ia5_text: bool,
+    has_control: bool,
+    has_reference: bool,
+    has_unnormalized: bool,
+    has_unread_notice: bool,
+}
+
+fn notice_faults(
+    alloc: Global,
+    policies: &Option<CertificatePolicies>,
+) -> Result<NoticeFaults, Error>
+    ensures ok { IfOk result (λ faults. (faults.has_long_text ≡ has_faulty_notice Long policies.now)
+        × (faults.has_empty_text ≡ has_faulty_notice NoText policies.now) × (faults.has_old_text ≡ has_faulty_notice OldType policies.now)
+        × (faults.has_ia5_text ≡ has_faulty_notice Ia5Type policies.now) × (faults.has_control ≡ has_faulty_notice Control policies.now)
+        × (faults.has_reference ≡ has_faulty_notice Reference policies.now) × (faults.has_unnormalized ≡ has_faulty_notice Unnormalized policies.now)
+        × (faults.has_unread_notice ≡ has_faulty_notice Unread policies.now)) }
+    ensures err { IfErr result (λ e. e.kind ≡ Memory) }
+{
+    Ok(NoticeFaults {
+        has_long_text: has_faulty_notice(alloc, NoticeFault::Long, policies)?,
+        has_empty_text: has_faulty_notice(alloc, NoticeFault::NoText, policies)?,
+        has_old_text: has_faulty_notice(alloc, NoticeFault::OldType, policies)?,
+        has_ia5_text: has_faulty_notice(alloc, NoticeFault::Ia5Type, policies)?,
+        has_control: has_faulty_notice(alloc, NoticeFault::Control, policies)?,
+        has_reference: has_faulty_notice(alloc, NoticeFault::Reference, policies)?,
+        has_unnormalized: has_faulty_notice(alloc, NoticeFault::Unnormalized, policies)?,
+        has_unread_notice: has_faulty_notice(alloc, NoticeFault::Unread, policies)?,
+    })
+}
+
 pub(crate) fn policy_values(alloc: Global, extensions: &[Extension]) -> Result<PolicyValues, Error>
     ensures ok { IfOk result (ArePolicyValues extensions.now) }
     ensures err { IfErr result (λ e. e.kind ≡ Memory) }
 {
     let certificate_policies = payload(alloc, extensions)?;
     let are_policies_distinct = are_policies_distinct(alloc, &certificate_policies)?;
-    let has_long_text = has_faulty_notice(alloc, NoticeFault::Long, &certificate_policies)?;
-    let has_empty_text = has_faulty_notice(alloc, NoticeFault::NoText, &certificate_policies)?;
-    let has_old_text = has_faulty_notice(alloc, NoticeFault::OldType, &certificate_policies)?;
-    let has_ia5_text = has_faulty_notice(alloc, NoticeFault::Ia5Type, &certificate_policies)?;
-    let has_control = has_faulty_notice(alloc, NoticeFault::Control, &certificate_policies)?;
-    let has_reference = has_faulty_notice(alloc, NoticeFault::Reference, &certificate_policies)?;
-    let has_unnormalized = has_faulty_notice(
-        alloc,
-        NoticeFault::Unnormalized,
-        &certificate_policies,
-    )?;
-    let has_unread_notice = has_faulty_notice(alloc, NoticeFault::Unread, &certificate_policies)?;
+    let notices = notice_faults(alloc, &certificate_policies)?;
     let policy_mappings = payload(alloc, extensions)?;
     let has_unasserted_mapping = has_unasserted(
         alloc,
@@ -198,14 +225,14 @@ pub(crate) fn policy_values(alloc: Global, extensions: &[Extension]) -> Result<P
         policy_mappings,
         policy_constraints: payload(alloc, extensions)?,
         are_policies_distinct,
-        has_long_text,
-        has_empty_text,
-        has_old_text,
-        has_ia5_text,
-        has_control,
-        has_reference,
-        has_unnormalized,
-        has_unread_notice,
+        has_long_text: notices.has_long_text,
+        has_empty_text: notices.has_empty_text,
+        has_old_text: notices.has_old_text,
+        has_ia5_text: notices.has_ia5_text,
+        has_control: notices.has_control,
+        has_reference: notices.has_reference,
+        has_unnormalized: notices.has_unnormalized,
+        has_unread_notice: notices.has_unread_notice,
         has_unasserted_mapping,
     })
 }

@@ -11,7 +11,7 @@ use Rattle.x509_der.specs.OutcomeLaws.{ok_is}
 use Rattle.x509_der.specs.declared.error.ErrorKind.{ErrorKind}
 use Rattle.x509_text.specs.Crls.{entry_lines}
 use Rattle.x509_text.specs.Pieces.{elements_lines, entries_read}
-use Rattle.x509_text.specs.SplitCrls.{read_entries, read_entry}
+use Rattle.x509_crl_index.specs.Split.{read_entries, read_entry}
 use Rattle.x509_text.specs.declared.line.Place.{Place}
 
 one_front : (entry : RevokedCert Raw) (others whole : Result (List (RevokedCert Raw)) ErrorKind) → with_front (entry ∷ []) others ≡ whole → IsOk whole → (entries_read whole ≡ entry ∷ entries_read others) × IsOk others

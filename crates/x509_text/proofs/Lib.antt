@@ -4,7 +4,5 @@ pub mod Blocks
 pub mod ColonHex
 pub mod Dates
 pub mod Answered
-pub mod LeftOut
-pub mod Passed
 pub mod Elements
 pub mod Begins

@@ -17,7 +17,6 @@ pub mod Extensions
 pub mod Algorithms
 pub mod Certificates
 pub mod Crls
-pub mod SplitCrls
 pub mod Pieces
 pub mod Requests
 pub mod Anchors

@@ -14,7 +14,7 @@ use Rattle.x509_text.specs.declared.pieces.Stage.{Stage}
 use Rattle.x509_text.specs.declared.pieces.Stage.TheVariants.{Front, Entries, Done}
 use Rattle.x509_text.specs.Crls.{entry_lines, part_lines, signature_lines}
 use Rattle.x509_text.specs.Lines.{closing, opening, top}
-use Rattle.x509_text.specs.SplitCrls.{read_entries}
+use Rattle.x509_crl_index.specs.Split.{read_entries}
 
 -- the entries that were read, none where reading is refused
 abbrev pub entries_read : Result (List (RevokedCert Raw)) ErrorKind → List (RevokedCert Raw)

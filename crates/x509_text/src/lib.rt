@@ -24,7 +24,6 @@ mod qualifiers;
 mod requests;
 mod revocation;
 mod show;
-mod split_crl;
 mod timestamps;
 mod usages;
 mod values;

@@ -2,7 +2,7 @@
 
 ghost use Rattle.std.specs.Prelude.{◌≡◌, ◌<◌, ◌++◌, length, IfOk, IsOk, string_bytes};
 ghost use Rattle.x509_text.specs.Pieces as pieces;
-ghost use Rattle.x509_text.specs.SplitCrls.{read_entries};
+ghost use Rattle.x509_crl_index.specs.Split.{read_entries};
 
 use crate::crls::write_signature;
 use crate::line::{Depth, Place, Style, closing, write_opening};

@@ -1,14 +1,14 @@
 //! Documents of CRLs that come piece by piece.
 
 ghost use Rattle.std.specs.Prelude.{IsOk};
-ghost use Rattle.x509_text.specs.SplitCrls.{read_entries};
+ghost use Rattle.x509_crl_index.specs.Split.{read_entries};
 
 use crate::line::{Depth, Place, Style};
 use crate::piece::{behind_piece, entries_piece, front_piece};
-use crate::split_crl::split_whole;
 use std::alloc::{AllocError, Global};
 use x509_base::Raw;
 use x509_cert::crl::CertificateList;
+use x509_crl_index::split_crl;
 use x509_der::{ErrorKind, Length};
 
 /// What the next piece of a document is.
@@ -80,7 +80,7 @@ impl<'a> CrlPieces<'a> {
         if bytes.len() > Length::MAX.as_u32() as usize {
             return Ok(None);
         }
-        match split_whole(alloc, bytes) {
+        match split_crl(alloc, bytes) {
             Ok((crl, octets)) => Ok(Some(CrlPieces {
                 style,
                 stage: Stage::Front,

@@ -5,13 +5,13 @@ ghost use Rattle.x509_lint.specs.CrlEntry as grammar;
 ghost use Rattle.x509_lint.specs.Wording.{Says};
 ghost use Rattle.x509_lint.specs.Words.{passes};
 
-use crate::entries::{EntryFault, has_fault};
+use crate::crl::CrlParts;
+use crate::entries::{EntryFault, EntryTest};
 use crate::entry::{Entry, rules};
 use crate::extensions::has;
 use crate::group::{Group, Told};
 use crate::passes;
 use crate::rule::Rule;
-use crate::values::CrlValues;
 use x509_base::Raw;
 use x509_cert::crl::CertificateList;
 use x509_ext::pkix::{BaseCrlNumber, IssuingDistributionPoint};
@@ -74,7 +74,14 @@ fn is_direct(extensions: &[Extension], point: &Option<IssuingDistributionPoint>)
     !has::<IssuingDistributionPoint>(extensions) || passes!(point, point => !point.indirect_crl)
 }
 
-impl Group<CertificateList<Raw>, CrlValues> for CrlEntryRule {
+/// Whether an extension of an entry has the fault.
+fn has_fault(parts: &CrlParts, fault: EntryFault) -> bool
+    ensures { result ≡ grammar.has_fault parts.now fault }
+{
+    parts.facts.entries.found.is_noted(EntryTest::Faulty(fault))
+}
+
+impl Group<CertificateList<Raw>, CrlParts> for CrlEntryRule {
     ghost use Rattle.x509_lint.specs.CrlEntry.{crl_entry_sentence};
     ghost use Rattle.x509_lint.specs.declared.rule.Rule.TheVariants.{CrlEntry};
 
@@ -82,36 +89,29 @@ impl Group<CertificateList<Raw>, CrlValues> for CrlEntryRule {
 
     ghost as_rule = { λ rule. CrlEntry rule };
 
-    fn is_broken(&self, crl: &CertificateList<Raw>, values: &CrlValues) -> bool {
+    fn is_broken(&self, crl: &CertificateList<Raw>, parts: &CrlParts) -> bool {
         let extensions = members(crl.tbs_cert_list.crl_extensions.as_ref());
-        let entries = crl.tbs_cert_list.entries();
         match self {
-            CrlEntryRule::EntryReasonCritical => has_fault(entries, EntryFault::ReasonCritical),
-            CrlEntryRule::EntryReasonUnspecified => has_fault(
-                entries,
-                EntryFault::ReasonUnspecified,
-            ),
-            CrlEntryRule::EntryReasonRemoveFromCrl => has_fault(
-                entries,
-                EntryFault::ReasonRemoveFromCrl,
-            ) && !has::<BaseCrlNumber>(extensions),
-            CrlEntryRule::EntryReasonInvalid => has_fault(entries, EntryFault::ReasonInvalid),
-            CrlEntryRule::EntryInvalidityDateCritical => has_fault(
-                entries,
-                EntryFault::InvalidityDateCritical,
-            ),
-            CrlEntryRule::EntryInvalidityDateInvalid => has_fault(
-                entries,
-                EntryFault::InvalidityDateInvalid,
-            ),
-            CrlEntryRule::EntryCertificateIssuerNotCritical => has_fault(
-                entries,
-                EntryFault::IssuerNotCritical,
-            ),
-            CrlEntryRule::EntryCertificateIssuerNotIndirect => has_fault(
-                entries,
-                EntryFault::Issuer,
-            ) && is_direct(extensions, &values.issuing_distribution_point),
+            CrlEntryRule::EntryReasonCritical => has_fault(parts, EntryFault::ReasonCritical),
+            CrlEntryRule::EntryReasonUnspecified => has_fault(parts, EntryFault::ReasonUnspecified),
+            CrlEntryRule::EntryReasonRemoveFromCrl => {
+                has_fault(parts, EntryFault::ReasonRemoveFromCrl)
+                    && !has::<BaseCrlNumber>(extensions)
+            }
+            CrlEntryRule::EntryReasonInvalid => has_fault(parts, EntryFault::ReasonInvalid),
+            CrlEntryRule::EntryInvalidityDateCritical => {
+                has_fault(parts, EntryFault::InvalidityDateCritical)
+            }
+            CrlEntryRule::EntryInvalidityDateInvalid => {
+                has_fault(parts, EntryFault::InvalidityDateInvalid)
+            }
+            CrlEntryRule::EntryCertificateIssuerNotCritical => {
+                has_fault(parts, EntryFault::IssuerNotCritical)
+            }
+            CrlEntryRule::EntryCertificateIssuerNotIndirect => {
+                has_fault(parts, EntryFault::Issuer)
+                    && is_direct(extensions, &parts.values.issuing_distribution_point)
+            }
         }
     }
 

@@ -1,19 +1,16 @@
 //! Rules on the fields of a CRL (RFC 5280 5.1).
 
-ghost use Rattle.std.specs.List.{list_any};
 ghost use Rattle.std.specs.Prelude.{◌≡◌, is_some, not};
-ghost use Rattle.x509_ext.specs.Identifiers.{id_ce};
-ghost use Rattle.x509_ext.specs.LookUp.{members};
 ghost use Rattle.x509_lint.specs.CrlField as grammar;
 ghost use Rattle.x509_lint.specs.Seen.{crl_extension_oid};
 ghost use Rattle.x509_lint.specs.Wording.{Says};
-ghost use Rattle.x509_lint.specs.Words.{has, is_before, is_early_general, is_empty, passes};
+ghost use Rattle.x509_lint.specs.Words.{is_before, is_early_general, passes};
 
+use crate::entries::{EntryFault, EntryTest};
 use crate::entry::{Entry, rules};
-use crate::extensions::{has, is_empty_sequence};
+use crate::extensions::is_empty_sequence;
 use crate::facts::CrlFacts;
 use crate::group::{Group, Told};
-use crate::lists::{Test, any_of};
 use crate::names::{has_empty_rdn, has_no_country, is_empty_name};
 use crate::passes;
 use crate::rule::Rule;
@@ -21,12 +18,11 @@ use crate::texts::{TextFault, has_faulty_text};
 use crate::times::{is_before, is_early_general};
 use x509_base::{Raw, Time};
 use x509_cert::Version;
-use x509_cert::crl::{CertificateList, RevokedCert};
+use x509_cert::crl::CertificateList;
 use x509_der::{AssociatedOid, ObjectIdentifier};
-use x509_ext::members;
 use x509_ext::pkix::{
-    AuthorityInfoAccessSyntax, AuthorityKeyIdentifier, BaseCrlNumber, CertificateIssuer, CrlNumber,
-    FreshestCrl, IssuerAltName, IssuingDistributionPoint,
+    AuthorityInfoAccessSyntax, AuthorityKeyIdentifier, BaseCrlNumber, CrlNumber, FreshestCrl,
+    IssuerAltName, IssuingDistributionPoint,
 };
 
 /// A type of extension that CRLs have (RFC 5280 5.2).
@@ -227,60 +223,6 @@ fn is_not_v2(version: &Option<Version>) -> bool
     }
 }
 
-/// That an entry has extensions.
-struct Extended;
-
-impl Test<RevokedCert<Raw>> for Extended {
-    ghost use Rattle.std.specs.Prelude.{is_some};
-
-    ghost holds_of = { λ test entry. is_some entry.crl_entry_extensions };
-
-    fn holds_of(&self, entry: &RevokedCert<Raw>) -> bool {
-        entry.crl_entry_extensions.is_some()
-    }
-}
-
-/// That the list of an entry's extensions is there, and has none.
-struct EmptyExtensions;
-
-impl Test<RevokedCert<Raw>> for EmptyExtensions {
-    ghost use Rattle.x509_lint.specs.Words.{is_empty, passes};
-
-    ghost holds_of = { λ test entry. passes is_empty entry.crl_entry_extensions };
-
-    fn holds_of(&self, entry: &RevokedCert<Raw>) -> bool {
-        is_empty_sequence(&entry.crl_entry_extensions)
-    }
-}
-
-/// That an entry has a certificateIssuer.
-struct Issued;
-
-impl Test<RevokedCert<Raw>> for Issued {
-    ghost use Rattle.x509_ext.specs.Identifiers.{id_ce};
-    ghost use Rattle.x509_ext.specs.LookUp.{members};
-    ghost use Rattle.x509_lint.specs.Words.{has};
-
-    ghost holds_of = { λ test entry. has (id_ce 29) (members entry.crl_entry_extensions) };
-
-    fn holds_of(&self, entry: &RevokedCert<Raw>) -> bool {
-        has::<CertificateIssuer>(members(entry.crl_entry_extensions.as_ref()))
-    }
-}
-
-/// That the revocation date of an entry is one through 2049, and a GeneralizedTime.
-struct EarlyGeneral;
-
-impl Test<RevokedCert<Raw>> for EarlyGeneral {
-    ghost use Rattle.x509_lint.specs.Words.{is_early_general};
-
-    ghost holds_of = { λ test entry. is_early_general entry.revocation_date };
-
-    fn holds_of(&self, entry: &RevokedCert<Raw>) -> bool {
-        is_early_general(entry.revocation_date)
-    }
-}
-
 fn is_next_early_general(next: Option<Time>) -> bool
     ensures { result ≡ passes is_early_general next }
 {
@@ -306,7 +248,7 @@ impl Group<CertificateList<Raw>, CrlFacts> for CrlFieldRule {
         match self {
             CrlFieldRule::SignatureAlgorithmsDiffer => facts.algorithms_differ,
             CrlFieldRule::ExtensionsWithoutV2 => (part.crl_extensions.is_some()
-                || any_of(&Extended, part.entries()))
+                || facts.entries.found.is_noted(EntryTest::Extended))
                 && !is_v2(&part.version),
             CrlFieldRule::VersionNotV2 => is_not_v2(&part.version),
             CrlFieldRule::IssuerEmpty => is_empty_name(&part.issuer),
@@ -331,10 +273,13 @@ impl Group<CertificateList<Raw>, CrlFacts> for CrlFieldRule {
                 part.next_update,
                 part.this_update,
             ),
-            CrlFieldRule::RevokedCertificatesEmpty => is_empty_sequence(&part.revoked_certificates),
-            CrlFieldRule::SerialNumberRepeated => !facts.are_serials_distinct
-                && !any_of(&Issued, part.entries()),
-            CrlFieldRule::RevocationDateNotUtcTime => any_of(&EarlyGeneral, part.entries()),
+            CrlFieldRule::RevokedCertificatesEmpty => part.revoked_certificates.is_some()
+                && !facts.entries.found.is_noted(EntryTest::There),
+            CrlFieldRule::SerialNumberRepeated => !facts.entries.are_serials_distinct
+                && !facts.entries.found.is_noted(EntryTest::Faulty(EntryFault::Issuer)),
+            CrlFieldRule::RevocationDateNotUtcTime => {
+                facts.entries.found.is_noted(EntryTest::EarlyGeneral)
+            }
             CrlFieldRule::ExtensionsEmpty => is_empty_sequence(&part.crl_extensions),
             CrlFieldRule::ExtensionRepeated => facts.is_repeated,
         }
@@ -378,13 +323,12 @@ impl Group<CertificateList<Raw>, CrlFacts> for CrlEntryListRule {
 
     ghost as_rule = { λ rule. CrlEntryList rule };
 
-    fn is_broken(&self, crl: &CertificateList<Raw>, facts: &CrlFacts) -> bool {
+    fn is_broken(&self, _crl: &CertificateList<Raw>, facts: &CrlFacts) -> bool {
         match self {
-            CrlEntryListRule::EntryExtensionsEmpty => any_of(
-                &EmptyExtensions,
-                crl.tbs_cert_list.entries(),
-            ),
-            CrlEntryListRule::EntryExtensionRepeated => !facts.are_entries_distinct,
+            CrlEntryListRule::EntryExtensionsEmpty => {
+                facts.entries.found.is_noted(EntryTest::WithoutExtensions)
+            }
+            CrlEntryListRule::EntryExtensionRepeated => !facts.entries.are_distinct,
         }
     }
 

@@ -1,27 +1,13 @@
-use Rattle.std.proofs.Common.{◌≡◌, ◌∙◌, ◌++◌, ap, filter, map, subst, sym}
-use Rattle.x509_ext.specs.LookUp.{members}
-use Rattle.x509_lint.specs.CrlEntry.{crl_entry_rules}
-use Rattle.x509_lint.specs.CrlExtension.{crl_extension_rules}
-use Rattle.x509_lint.specs.CrlField.{crl_entry_list_rules, crl_extension_kinds, crl_field_rules}
-use Rattle.x509_lint.specs.Rules.{crl_breaks}
-use Rattle.x509_lint.specs.Values.{AreCrlValues, CrlParts}
-use Rattle.x509_lint.specs.declared.rule.Rule.TheVariants as rules
-use Rattle.x509_lint.proofs.Broken.{behind, filter-map}
+use Rattle.std.proofs.Common.{subst}
+use Rattle.std.proofs.lemmas.Result.{IfOk-weaker}
+use Rattle.x509_lint.proofs.CrlFindings.{are_findings}
+use Rattle.x509_lint.specs.Values.{AreEntryFacts}
 use Rattle.x509_lint.proofs.crl.lint_crl.Goals as goal
 
 pub returns-clause-ok : goal.returns-clause-ok
 returns-clause-ok c =
-    let parts : CrlParts = record { facts = c.in_ok-facts.facts; values = c.in_ok-values.values } in
-    let p = crl_breaks c.args.crl.now parts in
-    let none : c.add_broken.new.findings.items ≡ map rules.CrlField (filter (λ r. p (rules.CrlField r)) crl_field_rules) = rw c.new-findings.ensures.items at c.in_ok-add_broken.ensures in
-    let so = none ∙ sym (filter-map rules.CrlField p crl_field_rules) in
-    let fields = map rules.CrlField crl_field_rules in
-    let so_malformed = behind rules.CrlExtensionMalformed p fields crl_extension_kinds _ _ so c.in_ok-add_broken-2.ensures in
-    let malformed = fields ++ map rules.CrlExtensionMalformed crl_extension_kinds in
-    let so_list = behind rules.CrlEntryList p malformed crl_entry_list_rules _ _ so_malformed c.in_ok-add_broken-3.ensures in
-    let lists = malformed ++ map rules.CrlEntryList crl_entry_list_rules in
-    let so_extension = behind rules.CrlExtension p lists crl_extension_rules _ _ so_list c.in_ok-add_broken-4.ensures in (
-      parts,
-      (c.in_ok-facts.ensures.ok, subst (λ extensions. AreCrlValues extensions c.in_ok-values.values) (c.members.ensures ∙ ap members c.as_ref.ensures.value) c.in_ok-values.ensures.ok),
-      behind rules.CrlEntry p (lists ++ map rules.CrlExtension crl_extension_rules) crl_entry_rules _ _ so_extension c.in_ok-add_broken-5.ensures,
-    )
+    let entries = c.in_ok-entries.entries in
+    let asked = subst (λ revoked. AreEntryFacts revoked entries) c.entries.ensures c.in_ok-entries.ensures.ok in
+    IfOk-weaker c.broken_rules.result _ _
+    (λ findings found. are_findings c.args.crl.now c.in_ok-front.front entries c.in_ok-parts.parts findings.items c.in_ok-front.ensures.ok asked c.in_ok-parts.ensures.ok found)
+    c.broken_rules.ensures.ok

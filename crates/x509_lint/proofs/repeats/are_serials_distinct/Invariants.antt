@@ -1,5 +1,5 @@
 use Rattle.std.proofs.Common.{◌≡◌, take}
-use Rattle.x509_lint.specs.Values.{serials}
+use Rattle.x509_crl_index.specs.Split.{serials}
 use Rattle.x509_lint.proofs.repeats.are_serials_distinct.Given as goal
 
 abbrev pub invariant-loop-entry : goal.invariant-loop-entry

@@ -2,7 +2,7 @@ use Rattle.std.proofs.Common.{◌<◌, ◌++◌, length, string_bytes, inl, inr,
 use Rattle.x509_text.proofs.Elements.{first_lines}
 use Rattle.x509_text.specs.Crls.{entry_lines}
 use Rattle.x509_text.specs.Pieces.{elements_lines}
-use Rattle.x509_text.specs.SplitCrls.{read_entry}
+use Rattle.x509_crl_index.specs.Split.{read_entry}
 use Rattle.x509_der.specs.ListLaws.{field_shorter}
 use Rattle.x509_text.proofs.piece.entries_piece.Goals as goal
 

@@ -1,7 +1,7 @@
 use Rattle.std.proofs.Common.{◌≡◌, ◌<◌, ◌⊎◌, ◌++◌, length, string_bytes}
 use Rattle.std.specs.Prelude.{IsOk}
 use Rattle.x509_text.specs.Pieces.{elements_lines}
-use Rattle.x509_text.specs.SplitCrls.{read_entries}
+use Rattle.x509_crl_index.specs.Split.{read_entries}
 use Rattle.x509_text.proofs.piece.entries_piece.Given as goal
 
 -- the lines of the entries that were passed, the first once there is a text
