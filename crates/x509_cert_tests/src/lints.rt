@@ -28,8 +28,14 @@ fn breaks(alloc: Global, count: usize, name: &str) -> Result<bool, Error> {
 fn of_a_decoded_crl(rt: HostRuntime) -> Result<(), Fail> {
     let alloc = rt.alloc();
     for (count, is_empty, is_repeated) in [(0, true, false), (1, false, false), (2, false, true)] {
-        assert!(rt; breaks(alloc, count, "revoked_certificates_empty")? == is_empty, "of {count}");
-        assert!(rt; breaks(alloc, count, "serial_number_repeated")? == is_repeated, "of {count}");
+        assert!(rt;
+            breaks(alloc, count, "revoked_certificates_empty")? == is_empty,
+            "of {count}"
+        );
+        assert!(rt;
+            breaks(alloc, count, "serial_number_repeated")? == is_repeated,
+            "of {count}"
+        );
     }
     Ok(())
 }

@@ -35,7 +35,7 @@ spelled_first [] rest piece good is at = absurd (let none : piece_at [] ≡ Ok p
 spelled_first (e ∷ behind) rest piece good is at =
     let lawful = revoked_cert_lawful no_check in
     let found : piece_at rest ≡ Ok (record { tag = form.tag e; content = form.content e; rest = joined (spelling form) behind }) =
-        ap piece_at is ∙ piece_at-element (form.tag e) (form.content e) (joined (spelling form) behind) (lawful.tagged e good.0).1 in
+    ap piece_at is ∙ piece_at-element (form.tag e) (form.content e) (joined (spelling form) behind) (lawful.tagged e good.0).1 in
     let same = ok_is piece (record { tag = form.tag e; content = form.content e; rest = joined (spelling form) behind }) (sym at ∙ found) in record {
       entry = e;
       behind = behind;

@@ -325,11 +325,7 @@ fn is_distinct(alloc: Global, entry: &RevokedCert<Raw>) -> Result<bool, Error>
 }
 
 /// Whether no two extensions of an entry more have one OID.
-fn stay_distinct(
-    alloc: Global,
-    are_distinct: bool,
-    entry: &RevokedCert<Raw>,
-) -> Result<bool, Error>
+fn stay_distinct(alloc: Global, are_distinct: bool, entry: &RevokedCert<Raw>) -> Result<bool, Error>
     ensures ok { IfOk result (λ b. IsTrue b ↔ (IsTrue are_distinct × IsDistinct entry.now)) }
     ensures err { IfErr result (λ e. e.kind ≡ Memory) }
 {

@@ -276,7 +276,10 @@ impl Group<CertificateList<Raw>, CrlFacts> for CrlFieldRule {
             CrlFieldRule::RevokedCertificatesEmpty => part.revoked_certificates.is_some()
                 && !facts.entries.found.is_noted(EntryTest::There),
             CrlFieldRule::SerialNumberRepeated => !facts.entries.are_serials_distinct
-                && !facts.entries.found.is_noted(EntryTest::Faulty(EntryFault::Issuer)),
+                && !facts
+                    .entries
+                    .found
+                    .is_noted(EntryTest::Faulty(EntryFault::Issuer)),
             CrlFieldRule::RevocationDateNotUtcTime => {
                 facts.entries.found.is_noted(EntryTest::EarlyGeneral)
             }
