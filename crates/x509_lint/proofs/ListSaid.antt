@@ -1,5 +1,5 @@
 -- What is said of the encoding of a CRL, by the CRL without its entries.
-use Rattle.std.proofs.Common.{◌≡◌, ◌≢◌, ◌≤◌, ◌∙◌, ℕ, List, length, Option, Some, None, Result, Ok, Err, ap, refl, sym}
+use Rattle.std.proofs.Common.{◌≡◌, ◌≢◌, ◌≤◌, ◌∙◌, ℕ, List, length, Option, Some, None, Result, Ok, ap, refl}
 use Rattle.std.specs.Prelude.{IsOk, codes}
 use Rattle.x509_base.specs.declared.profile.Raw.{Raw}
 use Rattle.x509_cert.specs.AnySerial.{any_certificate_list}

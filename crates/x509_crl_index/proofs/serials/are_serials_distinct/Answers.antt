@@ -1,4 +1,4 @@
-use Rattle.std.proofs.Common.{◌≡◌, ◌↔◌, IsTrue, rules, subst}
+use Rattle.std.proofs.Common.{◌↔◌, IsTrue, rules, subst}
 use Rattle.std.proofs.lemmas.Fn.{always_returns_same}
 use Rattle.std.specs.Ordering.{is_lt}
 use Rattle.x509_crl_index.proofs.Distinct.{by_order}
