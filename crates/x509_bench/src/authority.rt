@@ -33,6 +33,7 @@ fn octets(alloc: Global, kind: Kind, len: usize) -> std::result::Result<Template
 }
 
 /// What the authority has.
+#[derive(Drop)]
 struct Office {
     name: Name,
     certificate: Certificate,
@@ -43,31 +44,12 @@ struct Office {
     requests: Vec<Template>,
 }
 
-impl Drop for Office {
-    fn drop(self) {
-        let Office {
-            name: _,
-            certificate: _,
-            key: _,
-            serials: _,
-            signatures: _,
-            roots: _,
-            requests: _,
-        } = self;
-    }
-}
-
-/// The certificate of the authority.
-fn own_certificate(alloc: Global, filler: &mut Filler) -> std::result::Result<Certificate, Error> {
+/// The authority.
+fn authority(alloc: Global, filler: &mut Filler) -> std::result::Result<Office, Error> {
     let mut shape = authority_shape(1);
     shape.rdns = 3;
     let bytes = certificate(alloc, shape)?.object(alloc, filler)?;
-    Certificate::from_der(alloc, bytes.as_slice())
-}
-
-/// The authority.
-fn authority(alloc: Global, filler: &mut Filler) -> std::result::Result<Office, Error> {
-    let certificate = own_certificate(alloc, filler)?;
+    let certificate = Certificate::from_der(alloc, bytes.as_slice())?;
     Ok(Office {
         name: certificate.tbs_certificate().subject().try_clone(alloc)?,
         certificate,
@@ -297,22 +279,12 @@ fn serve(
 }
 
 /// The buffers of a run.
+#[derive(Drop)]
 struct Buffers {
     request: Vec<u8>,
     serial: Vec<u8>,
     bits: Vec<u8>,
     text: Vec<u8>,
-}
-
-impl Drop for Buffers {
-    fn drop(self) {
-        let Buffers {
-            request: _,
-            serial: _,
-            bits: _,
-            text: _,
-        } = self;
-    }
 }
 
 /// Decodes the next CSR and does a task for it.

@@ -47,9 +47,11 @@ fn put_subtrees(w: &mut Writer) -> Result<(), Error> {
         let subtree = w.mark();
         w.text(".example.org")?;
         w.hole(Kind::Letters, 12)?;
-        w.close_each(&[0x82, 0x30], subtree)?;
+        w.close(0x82, subtree)?;
+        w.close(0x30, subtree)?;
     }
-    w.close_each(&[0xA0, 0x30], since)?;
+    w.close(0xA0, since)?;
+    w.close(0x30, since)?;
     close_extension(w, &[0x55, 0x1D, 30], true, since)
 }
 
@@ -63,7 +65,8 @@ fn put_extensions(w: &mut Writer, kind: Awkward) -> Result<(), Error> {
     }
     put_constraints(w, true, None)?;
     put_key_usage(w, true)?;
-    w.close_each(&[0x30, 0xA3], since)
+    w.close(0x30, since)?;
+    w.close(0xA3, since)
 }
 
 /// The last digit of a number.
@@ -126,7 +129,8 @@ fn put_escapes(w: &mut Writer) -> Result<(), Error> {
             put_text(w, value)?;
             w.close(UTF8, rdn)?;
             w.element(0x06, &[0x55, 0x04, 10])?;
-            w.close_each(&[0x30, 0x31], rdn)?;
+            w.close(0x30, rdn)?;
+            w.close(0x31, rdn)?;
         }
     }
     w.close(0x30, since)
@@ -167,26 +171,21 @@ fn put_dates(w: &mut Writer) -> Result<(), Error> {
     w.close(0x30, since)
 }
 
-/// Puts an awkward certificate in front.
-fn put_awkward(w: &mut Writer, kind: Awkward) -> Result<(), Error> {
-    put_signature(w, true)?;
-    let since = w.mark();
-    put_extensions(w, kind)?;
-    if kind == Awkward::Nested {
-        put_nested_key(w)?;
-    } else {
-        put_key(w, true)?;
-    }
-    put_subject(w, kind)?;
-    put_dates(w)?;
-    put_name(w, 3, 0)?;
-    put_start(w, true, since)?;
-    w.close(0x30, 0)
-}
-
 /// An awkward certificate.
 pub(crate) fn make_awkward(alloc: Global, kind: Awkward) -> Result<Template, Error> {
     let mut w = Writer::new(alloc);
-    put_awkward(&mut w, kind)?;
+    put_signature(&mut w, true)?;
+    let since = w.mark();
+    put_extensions(&mut w, kind)?;
+    if kind == Awkward::Nested {
+        put_nested_key(&mut w)?;
+    } else {
+        put_key(&mut w, true)?;
+    }
+    put_subject(&mut w, kind)?;
+    put_dates(&mut w)?;
+    put_name(&mut w, 3, 0)?;
+    put_start(&mut w, true, since)?;
+    w.close(0x30, 0)?;
     Ok(w.finish())
 }

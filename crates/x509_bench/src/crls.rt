@@ -184,22 +184,12 @@ fn use_one(
 }
 
 /// CRLs of one size, and what is done with them.
+#[derive(Drop)]
 struct OneSize {
     template: Template,
     entries: usize,
     how: Use,
     is_cut: bool,
-}
-
-impl Drop for OneSize {
-    fn drop(self) {
-        let OneSize {
-            template: _,
-            entries: _,
-            how: _,
-            is_cut: _,
-        } = self;
-    }
 }
 
 /// CRLs of ten times so many entries.

@@ -138,24 +138,20 @@ pub(crate) fn put_start(w: &mut Writer, is_rsa: bool, since: usize) -> Result<()
     w.close(0x30, since)
 }
 
-/// Puts a certificate of that shape in front.
-fn put_certificate(w: &mut Writer, shape: Shape) -> Result<(), Error> {
-    put_signature(w, shape.is_rsa)?;
-    let since = w.mark();
-    if shape.is_ca {
-        put_authority_extensions(w, shape)?;
-    } else {
-        put_leaf_extensions(w, shape)?;
-    }
-    w.close_each(&[0x30, 0xA3], since)?;
-    put_front(w, shape, since)?;
-    w.close(0x30, 0)
-}
-
 /// A certificate of that shape.
 pub(crate) fn certificate(alloc: Global, shape: Shape) -> Result<Template, Error> {
     let mut w = Writer::new(alloc);
-    put_certificate(&mut w, shape)?;
+    put_signature(&mut w, shape.is_rsa)?;
+    let since = w.mark();
+    if shape.is_ca {
+        put_authority_extensions(&mut w, shape)?;
+    } else {
+        put_leaf_extensions(&mut w, shape)?;
+    }
+    w.close(0x30, since)?;
+    w.close(0xA3, since)?;
+    put_front(&mut w, shape, since)?;
+    w.close(0x30, 0)?;
     Ok(w.finish())
 }
 
@@ -202,23 +198,17 @@ fn put_full_entry(w: &mut Writer) -> Result<(), Error> {
     put_entry_front(w, 16, since)
 }
 
-/// Puts ten entries in front, every third with a reason, or each with three extensions.
-fn put_ten_entries(w: &mut Writer, is_full: bool) -> Result<(), Error> {
+/// Ten entries, every third with a reason.
+fn ten_entries(alloc: Global, is_full: bool) -> Result<Template, Error> {
     const LENGTHS: [usize; 10] = [16, 18, 16, 20, 16, 17, 16, 19, 16, 20];
+    let mut w = Writer::new(alloc);
     for (place, len) in LENGTHS.iter().enumerate() {
         if is_full {
-            put_full_entry(w)?;
+            put_full_entry(&mut w)?;
         } else {
-            put_entry(w, *len, place % 3 == 0)?;
+            put_entry(&mut w, *len, place % 3 == 0)?;
         }
     }
-    Ok(())
-}
-
-/// Ten entries.
-fn ten_entries(alloc: Global, is_full: bool) -> Result<Template, Error> {
-    let mut w = Writer::new(alloc);
-    put_ten_entries(&mut w, is_full)?;
     Ok(w.finish())
 }
 
@@ -226,7 +216,8 @@ fn ten_entries(alloc: Global, is_full: bool) -> Result<Template, Error> {
 fn put_list_extensions(w: &mut Writer, since: usize) -> Result<(), Error> {
     put_crl_number(w)?;
     put_authority_key(w)?;
-    w.close_each(&[0x30, 0xA0], since)
+    w.close(0x30, since)?;
+    w.close(0xA0, since)
 }
 
 /// Puts what stands before the entries of a CRL in front, and closes the signed part.
@@ -239,24 +230,18 @@ fn put_list_front(w: &mut Writer, is_rsa: bool, since: usize) -> Result<(), Erro
     w.close(0x30, since)
 }
 
-/// Puts a CRL of so many copies of the entries in front.
-fn put_list(w: &mut Writer, entries: Template, count: usize) -> Result<(), Error> {
-    let is_rsa = count % 2 == 1;
-    put_signature(w, is_rsa)?;
-    let since = w.mark();
-    put_list_extensions(w, since)?;
-    let end = w.mark();
-    w.copies(entries, count)?;
-    w.close(0x30, end)?;
-    put_list_front(w, is_rsa, since)?;
-    w.close(0x30, 0)
-}
-
 /// A CRL of ten times so many entries; each has three extensions where asked for.
 pub(crate) fn list(alloc: Global, tens: usize, is_full: bool) -> Result<Template, Error> {
-    let entries = ten_entries(alloc, is_full)?;
+    let is_rsa = tens % 2 == 1;
     let mut w = Writer::new(alloc);
-    put_list(&mut w, entries, tens)?;
+    put_signature(&mut w, is_rsa)?;
+    let since = w.mark();
+    put_list_extensions(&mut w, since)?;
+    let entries = w.mark();
+    w.copies(ten_entries(alloc, is_full)?, tens)?;
+    w.close(0x30, entries)?;
+    put_list_front(&mut w, is_rsa, since)?;
+    w.close(0x30, 0)?;
     Ok(w.finish())
 }
 
@@ -264,27 +249,25 @@ pub(crate) fn list(alloc: Global, tens: usize, is_full: bool) -> Result<Template
 fn put_asked_extensions(w: &mut Writer, names: usize, since: usize) -> Result<(), Error> {
     put_alternative_names(w, names)?;
     put_key_usage(w, false)?;
-    w.close_each(&[0x30, 0x31], since)?;
-    w.element(0x06, b"\x2A\x86\x48\x86\xF7\x0D\x01\x09\x0E")?;
-    w.close_each(&[0x30, 0xA0], since)
-}
-
-/// Puts a CSR for a server of that shape in front.
-fn put_request(w: &mut Writer, shape: Shape) -> Result<(), Error> {
-    put_signature(w, shape.is_rsa)?;
-    let since = w.mark();
-    put_asked_extensions(w, shape.names, since)?;
-    put_key(w, shape.is_rsa)?;
-    put_name(w, shape.rdns, 0)?;
-    w.put(&[2, 1, 0])?;
     w.close(0x30, since)?;
-    w.close(0x30, 0)
+    w.close(0x31, since)?;
+    w.element(0x06, b"\x2A\x86\x48\x86\xF7\x0D\x01\x09\x0E")?;
+    w.close(0x30, since)?;
+    w.close(0xA0, since)
 }
 
 /// A CSR for a server.
 pub(crate) fn request(alloc: Global, number: usize) -> Result<Template, Error> {
+    let shape = leaf_shape(number);
     let mut w = Writer::new(alloc);
-    put_request(&mut w, leaf_shape(number))?;
+    put_signature(&mut w, shape.is_rsa)?;
+    let since = w.mark();
+    put_asked_extensions(&mut w, shape.names, since)?;
+    put_key(&mut w, shape.is_rsa)?;
+    put_name(&mut w, shape.rdns, 0)?;
+    w.put(&[2, 1, 0])?;
+    w.close(0x30, since)?;
+    w.close(0x30, 0)?;
     Ok(w.finish())
 }
 

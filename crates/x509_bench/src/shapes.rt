@@ -242,7 +242,8 @@ pub(crate) fn put_subject_key(w: &mut Writer) -> Result<(), Error> {
 pub(crate) fn put_authority_key(w: &mut Writer) -> Result<(), Error> {
     let since = w.mark();
     w.hole(Kind::Octets, 20)?;
-    w.close_each(&[0x80, 0x30], since)?;
+    w.close(0x80, since)?;
+    w.close(0x30, since)?;
     close_usual(w, 35, false, since)
 }
 
@@ -305,7 +306,10 @@ pub(crate) fn put_access_of_issuer(w: &mut Writer) -> Result<(), Error> {
 pub(crate) fn put_points(w: &mut Writer) -> Result<(), Error> {
     let since = w.mark();
     put_uri(w, ".crl.example.org/issuer.crl")?;
-    w.close_each(&[0xA0, 0xA0, 0x30, 0x30], since)?;
+    w.close(0xA0, since)?;
+    w.close(0xA0, since)?;
+    w.close(0x30, since)?;
+    w.close(0x30, since)?;
     close_usual(w, 31, false, since)
 }
 
@@ -372,6 +376,7 @@ pub(crate) fn put_invalidity(w: &mut Writer) -> Result<(), Error> {
 pub(crate) fn put_issuer_of_entry(w: &mut Writer) -> Result<(), Error> {
     let since = w.mark();
     put_name(w, 3, 0)?;
-    w.close_each(&[0xA4, 0x30], since)?;
+    w.close(0xA4, since)?;
+    w.close(0x30, since)?;
     close_usual(w, 29, true, since)
 }

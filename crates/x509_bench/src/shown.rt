@@ -15,22 +15,12 @@ use x509_der::{Decode, Error};
 use x509_text::{CrlPieces, Style, certificate_text, crl_text, request_text, show_bytes};
 
 /// The objects.
+#[derive(Drop)]
 struct Pools {
     certificates: Vec<Template>,
     lists: Vec<Template>,
     requests: Vec<Template>,
     awkward: Vec<Template>,
-}
-
-impl Drop for Pools {
-    fn drop(self) {
-        let Pools {
-            certificates: _,
-            lists: _,
-            requests: _,
-            awkward: _,
-        } = self;
-    }
 }
 
 /// CRLs of 10, and of 100 entries.

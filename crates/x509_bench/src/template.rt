@@ -56,20 +56,11 @@ pub(crate) struct Run {
 }
 
 /// An object of which some parts vary.
+#[derive(Drop)]
 pub(crate) struct Template {
     pub(crate) bytes: Vec<u8>,
     pub(crate) holes: Vec<Hole>,
     pub(crate) run: Option<Run>,
-}
-
-impl Drop for Template {
-    fn drop(self) {
-        let Template {
-            bytes: _,
-            holes: _,
-            run: _,
-        } = self;
-    }
 }
 
 /// What fills the parts.
@@ -169,16 +160,6 @@ impl Template {
             fill_run(buffer.as_mut_slice(), run, filler);
         }
         Ok(())
-    }
-
-    /// The octets and the parts of them that vary, without copies.
-    pub(crate) fn into_parts(self) -> (Vec<u8>, Vec<Hole>) {
-        let Template {
-            bytes,
-            holes,
-            run: _,
-        } = self;
-        (bytes, holes)
     }
 
     /// The next object, in a buffer of its own.

@@ -5,20 +5,11 @@ use std::alloc::Global;
 use x509_der::Error;
 
 /// The octets that were written, the last first, and the parts of them that vary.
+#[derive(Drop)]
 pub(crate) struct Writer {
     bytes: Vec<u8>,
     holes: Vec<Hole>,
     run: Option<Run>,
-}
-
-impl Drop for Writer {
-    fn drop(self) {
-        let Writer {
-            bytes: _,
-            holes: _,
-            run: _,
-        } = self;
-    }
 }
 
 impl Writer {
@@ -86,14 +77,6 @@ impl Writer {
         Ok(())
     }
 
-    /// Makes it the content of elements, each of which but the first holds the one before.
-    pub(crate) fn close_each(&mut self, tags: &[u8], since: usize) -> Result<(), Error> {
-        for tag in tags {
-            self.close(*tag, since)?;
-        }
-        Ok(())
-    }
-
     /// Puts an element in front.
     pub(crate) fn element(&mut self, tag: u8, content: &[u8]) -> Result<(), Error> {
         let since = self.mark();
@@ -103,7 +86,11 @@ impl Writer {
 
     /// Puts copies of the blocks in front. Nothing else may have varied copies.
     pub(crate) fn copies(&mut self, block: Template, count: usize) -> Result<(), Error> {
-        let (bytes, holes) = block.into_parts();
+        let Template {
+            bytes,
+            holes,
+            run: _,
+        } = block;
         let step = bytes.len();
         let mut reversed = bytes;
         reversed.reverse();
