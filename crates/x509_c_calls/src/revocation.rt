@@ -28,7 +28,7 @@ use x509_path::{AnchorRef, AnySignature, SliceVerifier};
 use x509_revocation::{CrlFault, RevocationSettings, RevocationStatus, SignedCrl};
 
 /// A CRL, and the name and the key under which it is verified: where each stands in the bytes.
-#[derive(Clone, Copy, Debug, PartialEq, Eq)]
+#[derive(Clone, Copy)]
 #[repr(C)]
 pub struct SignedCrlSpans {
     /// The CRL.
@@ -45,7 +45,7 @@ pub struct SignedCrlSpans {
 }
 
 /// What is answered. What doesn't belong to the status is 0.
-#[derive(Clone, Copy, Debug, PartialEq, Eq)]
+#[derive(Clone, Copy)]
 #[repr(C)]
 pub struct RevocationAnswer {
     /// 0 where the status is undetermined, 1 where the certificate isn't revoked, 2 where it is.

@@ -17,7 +17,7 @@ use x509_cert::anchor::{TrustAnchorChoice, TrustAnchorInfo};
 use x509_cert::certificate::{CertificateInner, TbsCertificateInner};
 
 /// A trust anchor (RFC 5914 3), by its places. An absent part has offset 0 and length 0.
-#[derive(Clone, Copy, Debug, PartialEq, Eq)]
+#[derive(Clone, Copy)]
 #[repr(C)]
 pub struct AnchorView {
     /// What it is: 0 for a Certificate, 1 for a TBSCertificate, 2 for a TrustAnchorInfo.

@@ -11,7 +11,7 @@ use x509_cert::anchor::{CertPathControls, CertPolicyFlags};
 use x509_ext::pkix::NameConstraints;
 
 /// Constraints on the paths from a trust anchor (RFC 5914 2.5), by their places. An absent part has offset 0 and length 0.
-#[derive(Clone, Copy, Debug, PartialEq, Eq)]
+#[derive(Clone, Copy)]
 #[repr(C)]
 pub struct PathControlsView {
     /// The name of the anchor.

@@ -9,7 +9,7 @@ use x509_base::Rfc5280;
 use x509_cert::anchor::{CertPathControls, TrustAnchorInfo};
 
 /// A description of a trust anchor (RFC 5914 2), by its places. An absent part has offset 0 and length 0.
-#[derive(Clone, Copy, Debug, PartialEq, Eq)]
+#[derive(Clone, Copy)]
 pub struct InfoView {
     /// The public key, with its algorithm.
     pub subject_public_key_info: Span,

@@ -5,7 +5,7 @@ use x509_base::Rfc5280;
 use x509_cert::certificate::TbsCertificateInner;
 
 /// The name and the key of a TBSCertificate, and its extensions (RFC 5280 4.1.2), by their places.
-#[derive(Clone, Copy, Debug, PartialEq, Eq)]
+#[derive(Clone, Copy)]
 pub struct PartView {
     /// The name of the subject.
     pub subject: Span,

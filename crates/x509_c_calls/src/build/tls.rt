@@ -57,7 +57,7 @@ fn subordinate_of(
 }
 
 /// What a subscriber's key may be used for, beside signatures of a TLS server.
-#[derive(Clone, Copy, Debug, PartialEq, Eq)]
+#[derive(Clone, Copy)]
 pub struct SubscriberUses {
     /// Whether it may be that of a TLS client too.
     pub client_auth: bool,

@@ -18,7 +18,7 @@ use x509_check::{CertificateRef, ExtensionRefs};
 use x509_der::Grammar;
 
 /// An extension, by its place in the bytes of a certificate.
-#[derive(Clone, Copy, Debug, PartialEq, Eq)]
+#[derive(Clone, Copy)]
 #[repr(C)]
 pub struct ExtensionView {
     /// 1 where it is critical, else 0.

@@ -17,7 +17,7 @@ use x509_der::Grammar;
 
 /// What is to be verified of a certificate (RFC 5280 4.1.1), by its place in the bytes: that these bits are a signature
 /// of the signed part, by that algorithm. The key is that of the issuer's certificate.
-#[derive(Clone, Copy, Debug, PartialEq, Eq)]
+#[derive(Clone, Copy)]
 #[repr(C)]
 pub struct SignatureView {
     /// What is signed, a whole TBSCertificate.

@@ -22,7 +22,7 @@ use x509_der::Grammar;
 
 /// What a certificate says (RFC 5280 4.1.2), and where its parts stand in its bytes. Each part is a whole element, with its identifier and
 /// its length.
-#[derive(Clone, Copy, Debug, PartialEq, Eq)]
+#[derive(Clone, Copy)]
 #[repr(C)]
 pub struct CertificateView {
     /// The version: 1, 2 or 3.

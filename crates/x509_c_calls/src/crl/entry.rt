@@ -5,7 +5,7 @@ use x509_base::Rfc5280;
 use x509_cert::crl::RevokedCert;
 
 /// An entry of a CRL (RFC 5280 5.1.2.6), by its place in the bytes of the list of entries.
-#[derive(Clone, Copy, Debug, PartialEq, Eq)]
+#[derive(Clone, Copy)]
 #[repr(C)]
 pub struct CrlEntryView {
     /// The serial number, an INTEGER.

@@ -19,7 +19,7 @@ use x509_der::{AssociatedOid, Decode, Error, Grammar, split_element};
 use x509_ext::pkix::CrlReason;
 
 /// When a certificate was revoked, and why.
-#[derive(Clone, Copy, Debug, PartialEq, Eq)]
+#[derive(Clone, Copy)]
 #[repr(C)]
 pub struct Revocation {
     /// When it was revoked, in seconds since 1970-01-01T00:00:00Z.

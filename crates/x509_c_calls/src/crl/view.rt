@@ -21,7 +21,7 @@ use x509_check::CrlRef;
 use x509_der::Grammar;
 
 /// What a CRL says (RFC 5280 5.1.2), and where its parts stand in its bytes. An absent part has offset 0 and length 0.
-#[derive(Clone, Copy, Debug, PartialEq, Eq)]
+#[derive(Clone, Copy)]
 #[repr(C)]
 pub struct CrlView {
     /// The version: 1 where it is left out.

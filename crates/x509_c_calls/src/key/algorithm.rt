@@ -5,7 +5,7 @@ use crate::{Span, View, enter, step_content, step_optional};
 use x509_base::AlgorithmIdentifier;
 
 /// An algorithm with its parameters (RFC 5280 4.1.1.2), by its place.
-#[derive(Clone, Copy, Debug, PartialEq, Eq)]
+#[derive(Clone, Copy)]
 #[repr(C)]
 pub struct AlgorithmView {
     /// The number of its [`SignatureKind`].

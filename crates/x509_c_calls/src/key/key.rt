@@ -19,7 +19,7 @@ use x509_der::{Decode, ErrorKind, Grammar};
 use x509_text::key_size;
 
 /// A public key with its algorithm (RFC 5280 4.1.2.7), by its place.
-#[derive(Clone, Copy, Debug, PartialEq, Eq)]
+#[derive(Clone, Copy)]
 #[repr(C)]
 pub struct KeyView {
     /// The number of its [`KeyKind`].

@@ -8,7 +8,7 @@ use x509_base::AlgorithmIdentifier;
 use x509_der::Any;
 
 /// The kind of a public key. Its number is that of C.
-#[derive(Clone, Copy, Debug, PartialEq, Eq)]
+#[derive(Clone, Copy)]
 pub enum KeyKind {
     /// None of the others.
     Other = 0,
@@ -48,7 +48,7 @@ pub enum KeyKind {
 }
 
 /// The kind of a signature algorithm. Its number is that of C.
-#[derive(Clone, Copy, Debug, PartialEq, Eq)]
+#[derive(Clone, Copy)]
 pub enum SignatureKind {
     /// None of the others.
     Other = 0,

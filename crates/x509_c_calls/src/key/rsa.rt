@@ -79,7 +79,7 @@ impl Spelled for RsaPublicKey {
 }
 
 /// The parts of an RSA public key, by their places, and its size.
-#[derive(Clone, Copy, Debug, PartialEq, Eq)]
+#[derive(Clone, Copy)]
 #[repr(C)]
 pub struct RsaKeyView {
     /// Where the content octets of the modulus stand.

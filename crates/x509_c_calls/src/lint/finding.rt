@@ -7,7 +7,7 @@ use crate::{Span, Status};
 use x509_der::ErrorKind;
 
 /// The texts of a finding, by their places.
-#[derive(Clone, Copy, Debug, PartialEq, Eq)]
+#[derive(Clone, Copy)]
 #[repr(C)]
 pub struct FindingView {
     /// What the object is called.

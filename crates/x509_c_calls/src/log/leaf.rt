@@ -16,7 +16,7 @@ use x509_sct::Version;
 use x509_sct::tls::{NamedByte, Tls, read_whole};
 
 /// A leaf of a log's tree (RFC 6962 3.4), by its place.
-#[derive(Clone, Copy, Debug, PartialEq, Eq)]
+#[derive(Clone, Copy)]
 #[repr(C)]
 pub struct LeafView {
     /// The version: 0, which is version 1.
@@ -42,7 +42,7 @@ pub struct LeafView {
 }
 
 /// What a log gives beside the entry of a precertificate (RFC 6962 4.6), by its place.
-#[derive(Clone, Copy, Debug, PartialEq, Eq)]
+#[derive(Clone, Copy)]
 #[repr(C)]
 pub struct PrecertChainView {
     /// Where the precertificate stands.

@@ -9,7 +9,7 @@ use x509_check::CertificateRef;
 use x509_validation::ValidationReason;
 
 /// What is answered to a path: what is wrong with it, or what it gives where it is valid. Of the other all numbers are 0.
-#[derive(Clone, Copy, Debug, PartialEq, Eq)]
+#[derive(Clone, Copy)]
 #[repr(C)]
 pub struct PathAnswer {
     /// The number of the certificate in the path, from 0.

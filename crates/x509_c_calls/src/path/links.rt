@@ -15,7 +15,7 @@ use x509_der::{ErrorKind, Grammar};
 use x509_path::SliceVerifier;
 
 /// A signature that doesn't hold for a key: each part as its element.
-#[derive(Clone, Copy, Debug)]
+#[derive(Clone, Copy)]
 pub(crate) struct BadSignature<'a> {
     /// The algorithm.
     pub algorithm: &'a [u8],

@@ -13,7 +13,7 @@ use x509_der::{ErrorKind, Grammar};
 use x509_path::{Anchor, AnySignature, PathFault, PathReason, check_path_slices};
 
 /// A fault of a path.
-#[derive(Clone, Copy, Debug, PartialEq, Eq)]
+#[derive(Clone, Copy)]
 #[repr(C)]
 pub struct Fault {
     /// The number of the certificate in the path, from 0.

@@ -1,7 +1,7 @@
 //! What is asked of a path.
 
 /// What is asked of a path, apart from what is trusted.
-#[derive(Clone, Copy, Debug)]
+#[derive(Clone, Copy)]
 pub struct PathQuestion<'a> {
     /// The certificates one behind the other, the topmost first.
     pub path: &'a [u8],

@@ -3,7 +3,7 @@
 use crate::Span;
 
 /// A certificate, and a key under which its signature doesn't hold: where each stands in the bytes.
-#[derive(Clone, Copy, Debug, PartialEq, Eq)]
+#[derive(Clone, Copy)]
 #[repr(C)]
 pub struct BadLink {
     /// The certificate.
@@ -14,7 +14,7 @@ pub struct BadLink {
 }
 
 /// What is searched for: a path from one of the anchors over candidates to a certificate.
-#[derive(Clone, Copy, Debug)]
+#[derive(Clone, Copy)]
 pub struct PathSearch<'a> {
     /// The bytes in which all certificates stand, and the keys of the links.
     pub bytes: &'a [u8],
@@ -45,7 +45,7 @@ pub struct PathSearch<'a> {
 }
 
 /// What is answered: the path that was found, or one that isn't valid where none is.
-#[derive(Clone, Copy, Debug, PartialEq, Eq)]
+#[derive(Clone, Copy)]
 #[repr(C)]
 pub struct FoundPath {
     /// The number of the first anchor that gives what the path is under, from 0; how many there are where what is wrong with the

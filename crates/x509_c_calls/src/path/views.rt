@@ -8,7 +8,7 @@ use x509_check::CertificateRef;
 
 /// What a certificate of a path says, and what is to be verified of it. Each place is one in the bytes of this certificate, which
 /// begin at 0.
-#[derive(Clone, Copy, Debug, PartialEq, Eq)]
+#[derive(Clone, Copy)]
 #[repr(C)]
 pub struct PathCertificate {
     /// What it says.

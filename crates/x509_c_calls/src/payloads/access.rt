@@ -7,7 +7,7 @@ use crate::{Span, enter};
 use x509_ext::pkix::AccessDescription;
 
 /// By which means something is found out, and where (RFC 5280 4.2.2.1).
-#[derive(Clone, Copy, Debug, PartialEq, Eq)]
+#[derive(Clone, Copy)]
 #[repr(C)]
 pub struct AccessView {
     /// Where the content octets of the identifier of the means stand.

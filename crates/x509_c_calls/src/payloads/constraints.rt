@@ -6,7 +6,7 @@ use x509_ext::pkix::BasicConstraints;
 
 /// Basic constraints: whether the subject is a certification authority, and how many more may stand below it (RFC 5280
 /// 4.2.1.9).
-#[derive(Clone, Copy, Debug, PartialEq, Eq)]
+#[derive(Clone, Copy)]
 #[repr(C)]
 pub struct BasicConstraintsView {
     /// 1 where it is a certification authority, else 0.

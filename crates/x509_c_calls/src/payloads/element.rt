@@ -6,7 +6,7 @@ use crate::{Span, step};
 use x509_der::Any;
 
 /// An element (X.690 8.1), by its place.
-#[derive(Clone, Copy, Debug, PartialEq, Eq)]
+#[derive(Clone, Copy)]
 #[repr(C)]
 pub struct ElementView {
     /// Its identifier octet.

@@ -9,7 +9,7 @@ use crate::{Span, enter, step};
 use x509_ext::Extension;
 
 /// An extension (RFC 5280 4.2), by its place in the bytes of a list of extensions.
-#[derive(Clone, Copy, Debug, PartialEq, Eq)]
+#[derive(Clone, Copy)]
 #[repr(C)]
 pub struct ExtensionEntry {
     /// Where the content octets of its OID stand.

@@ -9,7 +9,7 @@ use crate::{Span, enter, step};
 use x509_ext::pkix::name::GeneralName;
 
 /// A general name (RFC 5280 4.2.1.6), by its place in the bytes of a list of general names.
-#[derive(Clone, Copy, Debug, PartialEq, Eq)]
+#[derive(Clone, Copy)]
 #[repr(C)]
 pub struct GeneralNameView {
     /// The tag number, which says what kind of name it is.

@@ -6,7 +6,7 @@ use crate::{Span, enter};
 use x509_ext::pkix::AuthorityKeyIdentifier;
 
 /// The AKI (RFC 5280 4.2.1.1): which key of the issuer signed. An absent part has offset 0 and length 0.
-#[derive(Clone, Copy, Debug, PartialEq, Eq)]
+#[derive(Clone, Copy)]
 #[repr(C)]
 pub struct AuthorityKeyIdentifierView {
     /// Where the octets of the key's identifier stand.

@@ -6,7 +6,7 @@ use crate::{Span, enter, step};
 use x509_name::attr::AttributeTypeAndValue;
 
 /// An attribute of a name (RFC 5280 4.1.2.4), by its place in the bytes of a relative distinguished name.
-#[derive(Clone, Copy, Debug, PartialEq, Eq)]
+#[derive(Clone, Copy)]
 #[repr(C)]
 pub struct AttributeView {
     /// Where the content octets of its type stand.

@@ -9,7 +9,7 @@ use crate::{Span, enter, step};
 use x509_ext::pkix::certpolicy::{NoticeReference, UserNotice};
 
 /// A user notice (RFC 5280 4.2.1.4). An absent part has offset 0 and length 0.
-#[derive(Clone, Copy, Debug, PartialEq, Eq)]
+#[derive(Clone, Copy)]
 #[repr(C)]
 pub struct UserNoticeView {
     /// Where the organization of its reference stands, the whole element of a text.

@@ -15,7 +15,7 @@ use x509_der::{Decode, Grammar};
 use x509_ext::pkix::PrivateKeyUsagePeriod;
 
 /// The period in which a private key may sign (X.509 9.2.2.5), in seconds since 1970-01-01T00:00:00Z.
-#[derive(Clone, Copy, Debug, PartialEq, Eq)]
+#[derive(Clone, Copy)]
 #[repr(C)]
 pub struct PrivateKeyUsagePeriodView {
     /// 1 where a first moment is told, else 0.

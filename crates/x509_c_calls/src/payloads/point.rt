@@ -17,7 +17,7 @@ use x509_ext::pkix::crl::dp::{DistributionPoint, ReasonFlags};
 use x509_ext::pkix::name::DistributionPointName;
 
 /// Where CRLs are found (RFC 5280 4.2.1.13). An absent part has offset 0 and length 0.
-#[derive(Clone, Copy, Debug, PartialEq, Eq)]
+#[derive(Clone, Copy)]
 #[repr(C)]
 pub struct DistributionPointView {
     /// Where its full names stand, a whole element under the tag \[0\].
@@ -37,7 +37,7 @@ pub struct DistributionPointView {
 }
 
 /// The issuing distribution point (RFC 5280 5.2.5): which certificates the CRL covers. An absent part has offset 0 and length 0.
-#[derive(Clone, Copy, Debug, PartialEq, Eq)]
+#[derive(Clone, Copy)]
 #[repr(C)]
 pub struct IssuingDistributionPointView {
     /// Where its full names stand, a whole element under the tag \[0\].

@@ -8,7 +8,7 @@ use x509_ext::pkix::certpolicy::{PolicyInformation, PolicyQualifierInfo};
 use x509_ext::pkix::{PolicyConstraints, PolicyMapping};
 
 /// A policy of a certificate (RFC 5280 4.2.1.4).
-#[derive(Clone, Copy, Debug, PartialEq, Eq)]
+#[derive(Clone, Copy)]
 #[repr(C)]
 pub struct PolicyView {
     /// Where the content octets of its identifier stand.
@@ -36,7 +36,7 @@ impl View for PolicyView {
 }
 
 /// A policy qualifier (RFC 5280 4.2.1.4).
-#[derive(Clone, Copy, Debug, PartialEq, Eq)]
+#[derive(Clone, Copy)]
 #[repr(C)]
 pub struct QualifierView {
     /// Where the content octets of its identifier stand.
@@ -64,7 +64,7 @@ impl View for QualifierView {
 }
 
 /// A policy of the issuer's domain that the subject's domain has by another identifier (RFC 5280 4.2.1.5).
-#[derive(Clone, Copy, Debug, PartialEq, Eq)]
+#[derive(Clone, Copy)]
 #[repr(C)]
 pub struct MappingView {
     /// Where the content octets of the identifier in the issuer's domain stand.
@@ -92,7 +92,7 @@ impl View for MappingView {
 }
 
 /// The policy constraints (RFC 5280 4.2.1.11): after how many more certificates each of both holds.
-#[derive(Clone, Copy, Debug, PartialEq, Eq)]
+#[derive(Clone, Copy)]
 #[repr(C)]
 pub struct PolicyConstraintsView {
     /// 1 where an explicit policy is asked for, else 0.

@@ -9,7 +9,7 @@ use x509_ext::pkix::NameConstraints;
 use x509_ext::pkix::constraints::name::GeneralSubtree;
 
 /// Which names are permitted below an authority, and which are excluded (RFC 5280 4.2.1.10). An absent part has offset 0 and length 0.
-#[derive(Clone, Copy, Debug, PartialEq, Eq)]
+#[derive(Clone, Copy)]
 #[repr(C)]
 pub struct NameConstraintsView {
     /// Where the permitted subtrees stand, a whole element under the tag \[0\].
@@ -37,7 +37,7 @@ impl View for NameConstraintsView {
 }
 
 /// A subtree of names (RFC 5280 4.2.1.10).
-#[derive(Clone, Copy, Debug, PartialEq, Eq)]
+#[derive(Clone, Copy)]
 #[repr(C)]
 pub struct SubtreeView {
     /// The name at its root.

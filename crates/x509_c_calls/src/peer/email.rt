@@ -9,7 +9,7 @@ use x509_der::ErrorKind;
 use x509_peer::EmailAddress;
 
 /// Where the parts of an address of e-mail stand in its text.
-#[derive(Clone, Copy, Debug, PartialEq, Eq)]
+#[derive(Clone, Copy)]
 #[repr(C)]
 pub struct EmailView {
     /// The local part, in front of the `@`.

@@ -11,7 +11,7 @@ use x509_ext::pkix::name::IpAddress;
 use x509_peer::ServerName;
 
 /// What the text of a server's name says.
-#[derive(Clone, Copy, Debug, PartialEq, Eq)]
+#[derive(Clone, Copy)]
 #[repr(C)]
 pub struct ServerNameView {
     /// How many bytes of the text a DNS name has: all, or all but a dot at the end; 0 for an address.

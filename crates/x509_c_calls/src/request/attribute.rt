@@ -4,7 +4,7 @@ use crate::{Span, View, enter, step, step_content};
 use x509_name::attr::Attribute;
 
 /// An attribute of a CSR (RFC 2986 4.1), by its place.
-#[derive(Clone, Copy, Debug, PartialEq, Eq)]
+#[derive(Clone, Copy)]
 #[repr(C)]
 pub struct RequestAttributeView {
     /// Where the content octets of the OID of its type stand.

@@ -15,7 +15,7 @@ use x509_check::Check;
 use x509_der::Grammar;
 
 /// What a CSR says (RFC 2986 4), and where its parts stand in its bytes.
-#[derive(Clone, Copy, Debug, PartialEq, Eq)]
+#[derive(Clone, Copy)]
 #[repr(C)]
 pub struct RequestView {
     /// The version: 1.

@@ -12,7 +12,7 @@ use x509_sct::SignedCertificateTimestamp;
 use x509_sct::tls::{NamedByte, TlsError, read_whole};
 
 /// A timestamp of version 1 (RFC 6962 3.2), by its place.
-#[derive(Clone, Copy, Debug, PartialEq, Eq)]
+#[derive(Clone, Copy)]
 #[repr(C)]
 pub struct TimestampView {
     /// The version: 0, which is version 1.

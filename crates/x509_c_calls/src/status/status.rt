@@ -7,7 +7,7 @@ ghost use Rattle.x509_c_calls.specs.declared.status.status.Status.TheVariants as
 use x509_der::{Error, ErrorKind};
 
 /// The status of a call from C.
-#[derive(Clone, Copy, Debug, PartialEq, Eq)]
+#[derive(Clone, Copy)]
 pub enum Status {
     /// The call succeeded.
     Done,
