@@ -1,7 +1,8 @@
 #!/usr/bin/env python3
 """Runs the gate, and prints the processor seconds of each crate: of its proofs, of its tests, and of its wrong bodies.
 
-In the top folder of a clean clone. What `rt ci` prints goes to FILE with the time of each line, and the table to standard output, also where the
+In the top folder of a clean clone. With the names of crates it runs `rt ci` over these and those below them alone, which isn't the gate; what passed
+before on this machine isn't proved again, and has no row. What `rt ci` prints goes to FILE with the time of each line, and the table to standard output, also where the
 run is interrupted. The processes of its checker are looked at every second, so a figure can lack the last second of each.
 """
 import argparse
@@ -81,13 +82,14 @@ def table(seen):
 def main():
     parser = argparse.ArgumentParser(description=__doc__, formatter_class=argparse.RawDescriptionHelpFormatter)
     parser.add_argument("file", metavar="FILE", nargs="?", default="gate.log", help="gate.log, if left out")
-    file = parser.parse_args().file
+    parser.add_argument("crates", metavar="CRATE", nargs="*", help="all, if left out")
+    said = parser.parse_args()
     seen, is_over, start = {}, threading.Event(), time.time()
-    gate = subprocess.Popen(["rt", "ci"], stdout=subprocess.PIPE, stderr=subprocess.STDOUT, text=True)
+    gate = subprocess.Popen(["rt", "ci", *said.crates], stdout=subprocess.PIPE, stderr=subprocess.STDOUT, text=True)
     watcher = threading.Thread(target=watch, args=(str(gate.pid), seen, is_over))
     watcher.start()
     try:
-        with open(file, "w", encoding="utf-8") as log:
+        with open(said.file, "w", encoding="utf-8") as log:
             last = ""
             for line in gate.stdout:
                 last = line.rstrip("\n")

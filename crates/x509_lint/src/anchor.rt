@@ -1,20 +1,24 @@
 //! The rules on trust anchors.
 
-ghost use Rattle.std.specs.Prelude.{◌≡◌, IfErr, IfOk};
+ghost use Rattle.std.specs.Prelude.{◌≡◌, ◌++◌, map, IfErr, IfOk, OnOk};
 ghost use Rattle.x509_der.specs.declared.error.ErrorKind.TheVariants.{Memory};
 ghost use Rattle.x509_lint.specs.Anchor as grammar;
+ghost use Rattle.x509_lint.specs.Constraint.{constraint_rules};
+ghost use Rattle.x509_lint.specs.List.{extension_kinds};
 ghost use Rattle.x509_lint.specs.Rules.{AreAnchorFindings, AreFindings, AreInfoFindings};
+ghost use Rattle.x509_lint.specs.Sentence.{broken};
+ghost use Rattle.x509_lint.specs.declared.rule.Rule.TheVariants as rules;
 
 pub(crate) mod values;
 
-use crate::anchor::values::anchor_values;
+use crate::anchor::values::{AnchorValues, anchor_values};
 use crate::certificate::lint_certificate;
 use crate::group::add_broken;
 use crate::rule::Rule;
 use crate::rule::anchor::{ANCHOR_EXTENSION_RULES, ANCHOR_RULES};
 use crate::rule::constraint::CONSTRAINT_RULES;
 use crate::rule::list::MALFORMED;
-use std::alloc::Global;
+use std::alloc::{AllocError, Global};
 use x509_base::Raw;
 use x509_cert::anchor::{TrustAnchorChoice, TrustAnchorInfo};
 use x509_cert::certificate::{CertificateInner, TbsCertificateInner};
@@ -33,17 +37,32 @@ fn lint_signed(alloc: Global, signed: &TbsCertificateInner<Raw>) -> Result<Vec<R
     lint_certificate(alloc, &certificate)
 }
 
+/// Adds the rules that the description of a trust anchor, of which these are the values, breaks to the findings, in their order.
+fn add_info(
+    info: &TrustAnchorInfo<Raw>,
+    values: &AnchorValues,
+    findings: &mut Vec<Rule>,
+) -> Result<(), AllocError>
+    ensures { OnOk result (findings.new.items ≡ findings.old.items ++ map rules.Anchor
+        (broken grammar.anchor_sentence info.now values.now grammar.anchor_rules) ++ map rules.AnchorConstraint
+        (broken grammar.anchor_constraint_sentence info.now values.now constraint_rules) ++ map rules.AnchorExtension
+        (broken grammar.anchor_extension_sentence info.now values.now grammar.anchor_extension_rules) ++ map rules.AnchorExtensionMalformed
+        (broken grammar.anchor_malformed_sentence info.now values.now extension_kinds)) }
+{
+    add_broken(info, values, &ANCHOR_RULES, findings)?;
+    add_broken(info, values, &CONSTRAINT_RULES, findings)?;
+    add_broken(info, values, &ANCHOR_EXTENSION_RULES, findings)?;
+    add_broken(info, values, &MALFORMED, findings)
+}
+
 /// The rules that the description of a trust anchor breaks.
 fn lint_info(alloc: Global, info: &TrustAnchorInfo<Raw>) -> Result<Vec<Rule>, Error>
     ensures ok { IfOk result (λ findings. AreInfoFindings info.now findings.items) }
     ensures err { IfErr result (λ e. e.kind ≡ Memory) }
 {
-    let mut findings = Vec::new(alloc);
     let values = anchor_values(alloc, info)?;
-    add_broken(info, &values, &ANCHOR_RULES, &mut findings)?;
-    add_broken(info, &values, &CONSTRAINT_RULES, &mut findings)?;
-    add_broken(info, &values, &ANCHOR_EXTENSION_RULES, &mut findings)?;
-    add_broken(info, &values, &MALFORMED, &mut findings)?;
+    let mut findings = Vec::new(alloc);
+    add_info(info, &values, &mut findings)?;
     Ok(findings)
 }
 

@@ -1,11 +1,15 @@
 //! Groups of rules.
 
-ghost use Rattle.std.specs.Prelude.{◌≡◌, ◌++◌, map, OnOk};
+ghost use Rattle.std.specs.Prelude.{◌≡◌, ◌++◌, map, IfErr, OnOk};
+ghost use Rattle.x509_der.specs.declared.error.ErrorKind.TheVariants.{Memory};
 ghost use Rattle.x509_lint.specs.Sentence.{broken, rules_of};
 
 use crate::entry::Entry;
 use crate::rule::Rule;
-use std::alloc::AllocError;
+use std::alloc::{AllocError, Global};
+use x509_base::Raw;
+use x509_cert::certificate::CertificateInner;
+use x509_der::Error;
 
 /// A rule of a group, and how it is told: a line of the group's table.
 pub(crate) struct Told<R> {
@@ -48,5 +52,36 @@ pub(crate) fn add_broken<O, V, G: Group<O, V>>(
             findings.push(told.rule.to_rule())?;
         }
     }
+    Ok(())
+}
+
+/// What rules look at beside a certificate: values of its extensions, or of its key.
+pub(crate) trait Values {
+    ghost use Rattle.std.specs.Prelude.{◌≡◌, IfErr, IfOk};
+    ghost use Rattle.x509_der.specs.declared.error.ErrorKind.TheVariants.{Memory};
+    ghost use Rattle.x509_lint.specs.Words.{Certificate};
+
+    /// Whether they are those of the certificate.
+    ghost are_values: { Certificate → Self → Type 0 };
+
+    /// Those of the certificate.
+    fn values_of(alloc: Global, certificate: &CertificateInner<Raw>) -> Result<Self, Error>
+        ensures ok { IfOk result (are_values certificate.now) }
+        ensures err { IfErr result (λ e. e.kind ≡ Memory) };
+}
+
+/// Adds those of the rules of the table that the certificate breaks to the findings, in their order.
+pub(crate) fn add_group<V: Values + Drop, G: Group<CertificateInner<Raw>, V>>(
+    alloc: Global,
+    certificate: &CertificateInner<Raw>,
+    table: &[Told<G>],
+    findings: &mut Vec<Rule>,
+) -> Result<(), Error>
+    ensures ok { OnOk result ((values : V) × V.are_values certificate.now values
+        × (findings.new.items ≡ findings.old.items ++ map G.as_rule (broken G.sentence certificate.now values (rules_of table.now)))) }
+    ensures err { IfErr result (λ e. e.kind ≡ Memory) }
+{
+    let values = V::values_of(alloc, certificate)?;
+    add_broken(certificate, &values, table, findings)?;
     Ok(())
 }

@@ -44,7 +44,7 @@ pub use public_key::PublicKeyRule;
 pub use request::{RequestNameRule, RequestRule};
 
 /// A rule on certificates, CRLs, CSRs or trust anchors. It is printed as `error serial_number_not_positive (RFC 5280 4.1.2.2)`.
-#[derive(Clone, Copy, Debug, PartialEq, Eq)]
+#[derive(Clone, Copy, PartialEq, Eq)]
 pub enum Rule {
     /// On the fields of a certificate.
     Field(FieldRule),
@@ -190,6 +190,15 @@ impl Rule {
         ensures { result.now ≡ (rule_wording self).place }
     {
         self.entry().place
+    }
+}
+
+impl fmt::Debug for Rule {
+    ghost debug_output = { λ rule. Some (rule_wording rule).name };
+
+    /// Its name.
+    fn fmt<W: fmt::Write>(&self, f: &mut fmt::Formatter<W>) -> fmt::Result {
+        f.write_str(self.name())
     }
 }
 

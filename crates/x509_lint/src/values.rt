@@ -10,6 +10,7 @@ ghost use Rattle.x509_lint.specs.declared.notices.NoticeFault.TheVariants.{Long,
 use crate::asserted::has_unasserted;
 use crate::basic_constraints::AnyBasicConstraints;
 use crate::extensions::{extensions_of, payload, spelled};
+use crate::group::Values;
 use crate::notices::{NoticeFault, has_faulty_notice};
 use crate::repeats::{are_policies_distinct, policies_of};
 use crate::skip_certs::AnyPolicyConstraints;
@@ -44,10 +45,7 @@ impl Drop for AuthorityValues {
     }
 }
 
-pub(crate) fn authority_values(
-    alloc: Global,
-    extensions: &[Extension],
-) -> Result<AuthorityValues, Error>
+fn authority_values(alloc: Global, extensions: &[Extension]) -> Result<AuthorityValues, Error>
     ensures ok { IfOk result (AreAuthorityValues extensions.now) }
     ensures err { IfErr result (λ e. e.kind ≡ Memory) }
 {
@@ -56,6 +54,20 @@ pub(crate) fn authority_values(
         key_usage: payload(alloc, extensions)?,
         name_constraints: payload(alloc, extensions)?,
     })
+}
+
+impl Values for AuthorityValues {
+    ghost use Rattle.x509_lint.specs.Values.{AreAuthorityValues};
+    ghost use Rattle.x509_lint.specs.Words.{extensions_of};
+
+    ghost are_values = { λ certificate. AreAuthorityValues (extensions_of certificate) };
+
+    fn values_of(
+        alloc: Global,
+        certificate: &CertificateInner<Raw>,
+    ) -> Result<AuthorityValues, Error> {
+        authority_values(alloc, extensions_of(certificate))
+    }
 }
 
 /// Key identifiers, extended key usage and the private key usage period.
@@ -75,7 +87,7 @@ impl Drop for KeyValues {
     }
 }
 
-pub(crate) fn key_values(alloc: Global, extensions: &[Extension]) -> Result<KeyValues, Error>
+fn key_values(alloc: Global, extensions: &[Extension]) -> Result<KeyValues, Error>
     ensures ok { IfOk result (AreKeyValues extensions.now) }
     ensures err { IfErr result (λ e. e.kind ≡ Memory) }
 {
@@ -84,6 +96,17 @@ pub(crate) fn key_values(alloc: Global, extensions: &[Extension]) -> Result<KeyV
         extended_key_usage: payload(alloc, extensions)?,
         private_key_usage_period: payload(alloc, extensions)?,
     })
+}
+
+impl Values for KeyValues {
+    ghost use Rattle.x509_lint.specs.Values.{AreKeyValues};
+    ghost use Rattle.x509_lint.specs.Words.{extensions_of};
+
+    ghost are_values = { λ certificate. AreKeyValues (extensions_of certificate) };
+
+    fn values_of(alloc: Global, certificate: &CertificateInner<Raw>) -> Result<KeyValues, Error> {
+        key_values(alloc, extensions_of(certificate))
+    }
 }
 
 /// The alternative names of the subject and the issuer.
@@ -101,10 +124,7 @@ impl Drop for AlternativeValues {
     }
 }
 
-pub(crate) fn alternative_values(
-    alloc: Global,
-    extensions: &[Extension],
-) -> Result<AlternativeValues, Error>
+fn alternative_values(alloc: Global, extensions: &[Extension]) -> Result<AlternativeValues, Error>
     ensures ok { IfOk result (AreAlternativeValues extensions.now) }
     ensures err { IfErr result (λ e. e.kind ≡ Memory) }
 {
@@ -112,6 +132,20 @@ pub(crate) fn alternative_values(
         subject_alt_name: payload(alloc, extensions)?,
         issuer_alt_name: payload(alloc, extensions)?,
     })
+}
+
+impl Values for AlternativeValues {
+    ghost use Rattle.x509_lint.specs.Values.{AreAlternativeValues};
+    ghost use Rattle.x509_lint.specs.Words.{extensions_of};
+
+    ghost are_values = { λ certificate. AreAlternativeValues (extensions_of certificate) };
+
+    fn values_of(
+        alloc: Global,
+        certificate: &CertificateInner<Raw>,
+    ) -> Result<AlternativeValues, Error> {
+        alternative_values(alloc, extensions_of(certificate))
+    }
 }
 
 /// Certificate policies, policy mappings and policy constraints.
@@ -207,7 +241,7 @@ fn notice_faults(
     })
 }
 
-pub(crate) fn policy_values(alloc: Global, extensions: &[Extension]) -> Result<PolicyValues, Error>
+fn policy_values(alloc: Global, extensions: &[Extension]) -> Result<PolicyValues, Error>
     ensures ok { IfOk result (ArePolicyValues extensions.now) }
     ensures err { IfErr result (λ e. e.kind ≡ Memory) }
 {
@@ -237,6 +271,20 @@ pub(crate) fn policy_values(alloc: Global, extensions: &[Extension]) -> Result<P
     })
 }
 
+impl Values for PolicyValues {
+    ghost use Rattle.x509_lint.specs.Values.{ArePolicyValues};
+    ghost use Rattle.x509_lint.specs.Words.{extensions_of};
+
+    ghost are_values = { λ certificate. ArePolicyValues (extensions_of certificate) };
+
+    fn values_of(
+        alloc: Global,
+        certificate: &CertificateInner<Raw>,
+    ) -> Result<PolicyValues, Error> {
+        policy_values(alloc, extensions_of(certificate))
+    }
+}
+
 /// Name constraints.
 pub(crate) struct ConstraintValues {
     pub(crate) name_constraints: Option<NameConstraints>,
@@ -250,16 +298,27 @@ impl Drop for ConstraintValues {
     }
 }
 
-pub(crate) fn constraint_values(
-    alloc: Global,
-    extensions: &[Extension],
-) -> Result<ConstraintValues, Error>
+fn constraint_values(alloc: Global, extensions: &[Extension]) -> Result<ConstraintValues, Error>
     ensures ok { IfOk result (AreConstraintValues extensions.now) }
     ensures err { IfErr result (λ e. e.kind ≡ Memory) }
 {
     Ok(ConstraintValues {
         name_constraints: payload(alloc, extensions)?,
     })
+}
+
+impl Values for ConstraintValues {
+    ghost use Rattle.x509_lint.specs.Values.{AreConstraintValues};
+    ghost use Rattle.x509_lint.specs.Words.{extensions_of};
+
+    ghost are_values = { λ certificate. AreConstraintValues (extensions_of certificate) };
+
+    fn values_of(
+        alloc: Global,
+        certificate: &CertificateInner<Raw>,
+    ) -> Result<ConstraintValues, Error> {
+        constraint_values(alloc, extensions_of(certificate))
+    }
 }
 
 /// Lists of attributes, of CRL distribution points and of access descriptions.
@@ -283,7 +342,7 @@ impl Drop for PointValues {
     }
 }
 
-pub(crate) fn point_values(alloc: Global, extensions: &[Extension]) -> Result<PointValues, Error>
+fn point_values(alloc: Global, extensions: &[Extension]) -> Result<PointValues, Error>
     ensures ok { IfOk result (ArePointValues extensions.now) }
     ensures err { IfErr result (λ e. e.kind ≡ Memory) }
 {
@@ -294,6 +353,17 @@ pub(crate) fn point_values(alloc: Global, extensions: &[Extension]) -> Result<Po
         authority_info_access: payload(alloc, extensions)?,
         subject_info_access: payload(alloc, extensions)?,
     })
+}
+
+impl Values for PointValues {
+    ghost use Rattle.x509_lint.specs.Values.{ArePointValues};
+    ghost use Rattle.x509_lint.specs.Words.{extensions_of};
+
+    ghost are_values = { λ certificate. ArePointValues (extensions_of certificate) };
+
+    fn values_of(alloc: Global, certificate: &CertificateInner<Raw>) -> Result<PointValues, Error> {
+        point_values(alloc, extensions_of(certificate))
+    }
 }
 
 /// The numbers of the public key, and what it may be used for.
@@ -312,7 +382,7 @@ impl Drop for PublicKeyValues {
     }
 }
 
-pub(crate) fn public_key_values(
+fn public_key_values(
     alloc: Global,
     certificate: &CertificateInner<Raw>,
 ) -> Result<PublicKeyValues, Error>
@@ -324,6 +394,19 @@ pub(crate) fn public_key_values(
         key_numbers: spelled(alloc, key.subject_public_key.raw_bytes())?,
         key_usage: payload(alloc, extensions_of(certificate))?,
     })
+}
+
+impl Values for PublicKeyValues {
+    ghost use Rattle.x509_lint.specs.Values.{ArePublicKeyValues};
+
+    ghost are_values = { ArePublicKeyValues };
+
+    fn values_of(
+        alloc: Global,
+        certificate: &CertificateInner<Raw>,
+    ) -> Result<PublicKeyValues, Error> {
+        public_key_values(alloc, certificate)
+    }
 }
 
 /// The extensions of a CRL.

@@ -133,11 +133,11 @@ pub(crate) fn anchor_values(
     let extensions = members(info.extensions.as_ref());
     let subject_differs = do_subjects_differ(&info.cert_path);
     let key_differs = do_keys_differ(&info.pub_key, &info.cert_path);
-    let key_identifier = payload(alloc, own_extensions(&info.cert_path))?;
     let are_policies_distinct = are_identifiers_distinct(alloc, policy_set(&info.cert_path))?;
     let is_repeated = has_repeated_extension(alloc, extensions)?;
     let read = extensions_read(alloc, extensions)?;
     let is_name_distinct = are_rdns_distinct(alloc, ta_rdns(&info.cert_path))?;
+    let key_identifier = payload(alloc, own_extensions(&info.cert_path))?;
     Ok(AnchorValues {
         subject_differs,
         key_differs,

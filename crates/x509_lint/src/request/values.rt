@@ -168,11 +168,11 @@ pub(crate) fn request_values(alloc: Global, request: &CertReq) -> Result<Request
     let are_types_distinct = are_types_distinct(alloc, attributes)?;
     let is_password_malformed = has_malformed::<ChallengePassword>(alloc, attributes)?;
     let is_request_malformed = has_malformed::<ExtensionReq>(alloc, attributes)?;
+    let is_subject_distinct = is_distinct_name(alloc, &request.info.subject)?;
     let requested = requested(alloc, &request.info.attributes)?;
     let is_repeated = has_repeated_extension(alloc, requested_extensions(&requested))?;
     let read = extensions_read(alloc, requested_extensions(&requested))?;
     let subject_alt_name = payload(alloc, requested_extensions(&requested))?;
-    let is_subject_distinct = is_distinct_name(alloc, &request.info.subject)?;
     Ok(RequestValues {
         are_types_distinct,
         is_password_malformed,

@@ -1,5 +1,6 @@
 //! Rules on the alternative names of the subject and the issuer (RFC 5280 4.2.1.6, 4.2.1.7).
 
+ghost use Rattle.std.specs.List.{list_any};
 ghost use Rattle.std.specs.Prelude.{◌≡◌};
 ghost use Rattle.x509_lint.specs.Alternative as grammar;
 ghost use Rattle.x509_lint.specs.Wording.{Says};
@@ -9,7 +10,7 @@ use crate::beyond::{Beyond, is_unjudged};
 use crate::entry::{Entry, rules};
 use crate::extensions::{extensions_of, has};
 use crate::group::{Group, Told};
-use crate::lists::any_of;
+use crate::lists::{Test, any_of};
 use crate::names::{
     AtOtherHost, EmptyName, NoAddress, NoDnsName, NoMailbox, NoSmtpMailbox, NoSrvName, NoUri,
     OddDirectoryName, Relative, Rfc822Name,
@@ -21,6 +22,7 @@ use crate::values::AlternativeValues;
 use x509_base::Raw;
 use x509_cert::certificate::CertificateInner;
 use x509_ext::Extension;
+use x509_ext::pkix::name::GeneralName;
 use x509_ext::pkix::{IssuerAltName, SubjectAltName};
 
 /// Rules on the alternative names of the subject and the issuer (RFC 5280 4.2.1.6, 4.2.1.7).
@@ -148,6 +150,20 @@ fn lacks_mailbox(extensions: &[Extension], names: &Option<SubjectAltName>) -> bo
         || passes!(names, names => !any_of(&Rfc822Name, names.0.as_slice()))
 }
 
+/// Whether the SAN is read, and a name of it passes the test.
+fn has_subject_name<P: Test<GeneralName>>(test: &P, values: &AlternativeValues) -> bool
+    ensures { result ≡ passes (λ names. list_any (P.holds_of test.now) names.0) values.now.subject_alt_name }
+{
+    passes!(&values.subject_alt_name, names => any_of(test, names.0.as_slice()))
+}
+
+/// Whether the IAN is read, and a name of it passes the test.
+fn has_issuer_name<P: Test<GeneralName>>(test: &P, values: &AlternativeValues) -> bool
+    ensures { result ≡ passes (λ names. list_any (P.holds_of test.now) names.0) values.now.issuer_alt_name }
+{
+    passes!(&values.issuer_alt_name, names => any_of(test, names.0.as_slice()))
+}
+
 impl Group<CertificateInner<Raw>, AlternativeValues> for AlternativeRule {
     ghost use Rattle.x509_lint.specs.Alternative.{alternative_sentence};
     ghost use Rattle.x509_lint.specs.declared.rule.Rule.TheVariants.{Alternative};
@@ -163,26 +179,22 @@ impl Group<CertificateInner<Raw>, AlternativeValues> for AlternativeRule {
             ) && lacks_mailbox(extensions_of(certificate), &values.subject_alt_name),
             AlternativeRule::SubjectAltNameEmpty =>
                 passes!(&values.subject_alt_name, names => names.0.as_slice().is_empty()),
-            AlternativeRule::SubjectAltNameEmptyName =>
-                passes!(&values.subject_alt_name, names => any_of(&EmptyName, names.0.as_slice())),
-            AlternativeRule::SubjectAltNameDnsNameInvalid =>
-                passes!(&values.subject_alt_name, names => any_of(&NoDnsName, names.0.as_slice())),
-            AlternativeRule::SubjectAltNameAddressLength =>
-                passes!(&values.subject_alt_name, names => any_of(&NoAddress, names.0.as_slice())),
-            AlternativeRule::SubjectAltNameMailboxInvalid =>
-                passes!(&values.subject_alt_name, names => any_of(&NoMailbox, names.0.as_slice())),
-            AlternativeRule::SubjectAltNameUriRelative =>
-                passes!(&values.subject_alt_name, names => any_of(&Relative, names.0.as_slice())),
-            AlternativeRule::SubjectAltNameUriInvalid =>
-                passes!(&values.subject_alt_name, names => any_of(&NoUri, names.0.as_slice())),
-            AlternativeRule::SubjectAltNameUriHostInvalid =>
-                passes!(&values.subject_alt_name, names => any_of(&AtOtherHost, names.0.as_slice())),
-            AlternativeRule::SubjectAltNameDirectoryNameInvalid =>
-                passes!(&values.subject_alt_name, names => any_of(&OddDirectoryName, names.0.as_slice())),
-            AlternativeRule::SubjectAltNameSrvNameInvalid =>
-                passes!(&values.subject_alt_name, names => any_of(&NoSrvName, names.0.as_slice())),
-            AlternativeRule::SubjectAltNameSmtpUtf8MailboxInvalid =>
-                passes!(&values.subject_alt_name, names => any_of(&NoSmtpMailbox, names.0.as_slice())),
+            AlternativeRule::SubjectAltNameEmptyName => has_subject_name(&EmptyName, values),
+            AlternativeRule::SubjectAltNameDnsNameInvalid => has_subject_name(&NoDnsName, values),
+            AlternativeRule::SubjectAltNameAddressLength => has_subject_name(&NoAddress, values),
+            AlternativeRule::SubjectAltNameMailboxInvalid => has_subject_name(&NoMailbox, values),
+            AlternativeRule::SubjectAltNameUriRelative => has_subject_name(&Relative, values),
+            AlternativeRule::SubjectAltNameUriInvalid => has_subject_name(&NoUri, values),
+            AlternativeRule::SubjectAltNameUriHostInvalid => has_subject_name(&AtOtherHost, values),
+            AlternativeRule::SubjectAltNameDirectoryNameInvalid => has_subject_name(
+                &OddDirectoryName,
+                values,
+            ),
+            AlternativeRule::SubjectAltNameSrvNameInvalid => has_subject_name(&NoSrvName, values),
+            AlternativeRule::SubjectAltNameSmtpUtf8MailboxInvalid => has_subject_name(
+                &NoSmtpMailbox,
+                values,
+            ),
             AlternativeRule::SubjectAltNameNotJudged => is_unjudged::<SubjectAltName>(
                 Beyond::Names,
                 extensions_of(certificate),
@@ -190,26 +202,22 @@ impl Group<CertificateInner<Raw>, AlternativeValues> for AlternativeRule {
             ),
             AlternativeRule::IssuerAltNameEmpty =>
                 passes!(&values.issuer_alt_name, names => names.0.as_slice().is_empty()),
-            AlternativeRule::IssuerAltNameEmptyName =>
-                passes!(&values.issuer_alt_name, names => any_of(&EmptyName, names.0.as_slice())),
-            AlternativeRule::IssuerAltNameDnsNameInvalid =>
-                passes!(&values.issuer_alt_name, names => any_of(&NoDnsName, names.0.as_slice())),
-            AlternativeRule::IssuerAltNameAddressLength =>
-                passes!(&values.issuer_alt_name, names => any_of(&NoAddress, names.0.as_slice())),
-            AlternativeRule::IssuerAltNameMailboxInvalid =>
-                passes!(&values.issuer_alt_name, names => any_of(&NoMailbox, names.0.as_slice())),
-            AlternativeRule::IssuerAltNameUriRelative =>
-                passes!(&values.issuer_alt_name, names => any_of(&Relative, names.0.as_slice())),
-            AlternativeRule::IssuerAltNameUriInvalid =>
-                passes!(&values.issuer_alt_name, names => any_of(&NoUri, names.0.as_slice())),
-            AlternativeRule::IssuerAltNameUriHostInvalid =>
-                passes!(&values.issuer_alt_name, names => any_of(&AtOtherHost, names.0.as_slice())),
-            AlternativeRule::IssuerAltNameDirectoryNameInvalid =>
-                passes!(&values.issuer_alt_name, names => any_of(&OddDirectoryName, names.0.as_slice())),
-            AlternativeRule::IssuerAltNameSrvNameInvalid =>
-                passes!(&values.issuer_alt_name, names => any_of(&NoSrvName, names.0.as_slice())),
-            AlternativeRule::IssuerAltNameSmtpUtf8MailboxInvalid =>
-                passes!(&values.issuer_alt_name, names => any_of(&NoSmtpMailbox, names.0.as_slice())),
+            AlternativeRule::IssuerAltNameEmptyName => has_issuer_name(&EmptyName, values),
+            AlternativeRule::IssuerAltNameDnsNameInvalid => has_issuer_name(&NoDnsName, values),
+            AlternativeRule::IssuerAltNameAddressLength => has_issuer_name(&NoAddress, values),
+            AlternativeRule::IssuerAltNameMailboxInvalid => has_issuer_name(&NoMailbox, values),
+            AlternativeRule::IssuerAltNameUriRelative => has_issuer_name(&Relative, values),
+            AlternativeRule::IssuerAltNameUriInvalid => has_issuer_name(&NoUri, values),
+            AlternativeRule::IssuerAltNameUriHostInvalid => has_issuer_name(&AtOtherHost, values),
+            AlternativeRule::IssuerAltNameDirectoryNameInvalid => has_issuer_name(
+                &OddDirectoryName,
+                values,
+            ),
+            AlternativeRule::IssuerAltNameSrvNameInvalid => has_issuer_name(&NoSrvName, values),
+            AlternativeRule::IssuerAltNameSmtpUtf8MailboxInvalid => has_issuer_name(
+                &NoSmtpMailbox,
+                values,
+            ),
             AlternativeRule::IssuerAltNameNotJudged => is_unjudged::<IssuerAltName>(
                 Beyond::Names,
                 extensions_of(certificate),

@@ -2,8 +2,10 @@
 
 ghost use Rattle.std.specs.List.{list_any};
 ghost use Rattle.std.specs.Prelude.{◌≡◌};
+ghost use Rattle.x509_lint.specs.Place.{is_faulty_point};
 ghost use Rattle.x509_lint.specs.Point as grammar;
 ghost use Rattle.x509_lint.specs.Wording.{Says};
+ghost use Rattle.x509_lint.specs.Words.{passes};
 
 use crate::beyond::{Beyond, is_unjudged};
 use crate::entry::{Entry, rules};
@@ -216,6 +218,20 @@ impl Test<DistributionPoint> for EmptyPoint {
     }
 }
 
+/// Whether the CRLDistributionPoints are read, and a point of theirs has the fault.
+fn has_faulty_point(fault: PointFault, values: &PointValues) -> bool
+    ensures { result ≡ passes (λ p. list_any (is_faulty_point fault) p.0) values.now.crl_distribution_points }
+{
+    passes!(&values.crl_distribution_points, list => has_fault(fault, list.0.as_slice()))
+}
+
+/// Whether the FreshestCRL is read, and a point of it has the fault.
+fn has_faulty_freshest(fault: PointFault, values: &PointValues) -> bool
+    ensures { result ≡ passes (λ p. list_any (is_faulty_point fault) p.0) values.now.freshest_crl }
+{
+    passes!(&values.freshest_crl, list => has_fault(fault, list.0.as_slice()))
+}
+
 impl Group<CertificateInner<Raw>, PointValues> for PointRule {
     ghost use Rattle.x509_lint.specs.Point.{point_sentence};
     ghost use Rattle.x509_lint.specs.declared.rule.Rule.TheVariants.{Point};
@@ -241,20 +257,17 @@ impl Group<CertificateInner<Raw>, PointValues> for PointRule {
                 passes!(&values.crl_distribution_points, list => list.0.as_slice().is_empty()),
             PointRule::DistributionPointEmpty =>
                 passes!(&values.crl_distribution_points, list => any_of(&EmptyPoint, list.0.as_slice())),
-            PointRule::DistributionPointNamesEmpty =>
-                passes!(&values.crl_distribution_points, list => has_fault(PointFault::NoNames, list.0.as_slice())),
-            PointRule::DistributionPointRelative =>
-                passes!(&values.crl_distribution_points, list => has_fault(PointFault::Relative, list.0.as_slice())),
-            PointRule::DistributionPointRelativeToSeveral => match &values.crl_distribution_points {
-                Some(list) => has_fault(PointFault::RelativeToSeveral, list.0.as_slice()),
-                None => false,
-            },
-            PointRule::DistributionPointWithoutUri =>
-                passes!(&values.crl_distribution_points, list => has_fault(PointFault::NoUri, list.0.as_slice())),
-            PointRule::DistributionPointIssuerInvalid => match &values.crl_distribution_points {
-                Some(list) => has_fault(PointFault::OtherIssuer, list.0.as_slice()),
-                None => false,
-            },
+            PointRule::DistributionPointNamesEmpty => has_faulty_point(PointFault::NoNames, values),
+            PointRule::DistributionPointRelative => has_faulty_point(PointFault::Relative, values),
+            PointRule::DistributionPointRelativeToSeveral => has_faulty_point(
+                PointFault::RelativeToSeveral,
+                values,
+            ),
+            PointRule::DistributionPointWithoutUri => has_faulty_point(PointFault::NoUri, values),
+            PointRule::DistributionPointIssuerInvalid => has_faulty_point(
+                PointFault::OtherIssuer,
+                values,
+            ),
             PointRule::DistributionPointOwnIssuer => match &values.crl_distribution_points {
                 Some(list) => has_point_of(
                     certificate.tbs_certificate().issuer(),
@@ -264,16 +277,18 @@ impl Group<CertificateInner<Raw>, PointValues> for PointRule {
             },
             PointRule::DistributionPointsPartial =>
                 passes!(&values.crl_distribution_points, list => are_partial(list.0.as_slice())),
-            PointRule::DistributionPointUriInvalid =>
-                passes!(&values.crl_distribution_points, list => has_fault(PointFault::UriInvalid, list.0.as_slice())),
-            PointRule::DistributionPointLdapIncomplete => match &values.crl_distribution_points {
-                Some(list) => has_fault(PointFault::LdapIncomplete, list.0.as_slice()),
-                None => false,
-            },
-            PointRule::DistributionPointLdapWithoutHost => match &values.crl_distribution_points {
-                Some(list) => has_fault(PointFault::LdapWithoutHost, list.0.as_slice()),
-                None => false,
-            },
+            PointRule::DistributionPointUriInvalid => has_faulty_point(
+                PointFault::UriInvalid,
+                values,
+            ),
+            PointRule::DistributionPointLdapIncomplete => has_faulty_point(
+                PointFault::LdapIncomplete,
+                values,
+            ),
+            PointRule::DistributionPointLdapWithoutHost => has_faulty_point(
+                PointFault::LdapWithoutHost,
+                values,
+            ),
             PointRule::CrlDistributionPointsNotJudged => is_unjudged::<CrlDistributionPoints>(
                 Beyond::Names,
                 extensions_of(certificate),
@@ -283,16 +298,23 @@ impl Group<CertificateInner<Raw>, PointValues> for PointRule {
                 passes!(&values.freshest_crl, list => list.0.as_slice().is_empty()),
             PointRule::FreshestCrlPointEmpty =>
                 passes!(&values.freshest_crl, list => any_of(&EmptyPoint, list.0.as_slice())),
-            PointRule::FreshestCrlPointNamesEmpty =>
-                passes!(&values.freshest_crl, list => has_fault(PointFault::NoNames, list.0.as_slice())),
-            PointRule::FreshestCrlPointRelative =>
-                passes!(&values.freshest_crl, list => has_fault(PointFault::Relative, list.0.as_slice())),
-            PointRule::FreshestCrlPointRelativeToSeveral =>
-                passes!(&values.freshest_crl, list => has_fault(PointFault::RelativeToSeveral, list.0.as_slice())),
-            PointRule::FreshestCrlPointWithoutUri =>
-                passes!(&values.freshest_crl, list => has_fault(PointFault::NoUri, list.0.as_slice())),
-            PointRule::FreshestCrlPointIssuerInvalid =>
-                passes!(&values.freshest_crl, list => has_fault(PointFault::OtherIssuer, list.0.as_slice())),
+            PointRule::FreshestCrlPointNamesEmpty => has_faulty_freshest(
+                PointFault::NoNames,
+                values,
+            ),
+            PointRule::FreshestCrlPointRelative => has_faulty_freshest(
+                PointFault::Relative,
+                values,
+            ),
+            PointRule::FreshestCrlPointRelativeToSeveral => has_faulty_freshest(
+                PointFault::RelativeToSeveral,
+                values,
+            ),
+            PointRule::FreshestCrlPointWithoutUri => has_faulty_freshest(PointFault::NoUri, values),
+            PointRule::FreshestCrlPointIssuerInvalid => has_faulty_freshest(
+                PointFault::OtherIssuer,
+                values,
+            ),
             PointRule::FreshestCrlPointOwnIssuer => match &values.freshest_crl {
                 Some(list) => has_point_of(
                     certificate.tbs_certificate().issuer(),
@@ -302,12 +324,18 @@ impl Group<CertificateInner<Raw>, PointValues> for PointRule {
             },
             PointRule::FreshestCrlPointsPartial =>
                 passes!(&values.freshest_crl, list => are_partial(list.0.as_slice())),
-            PointRule::FreshestCrlPointUriInvalid =>
-                passes!(&values.freshest_crl, list => has_fault(PointFault::UriInvalid, list.0.as_slice())),
-            PointRule::FreshestCrlPointLdapIncomplete =>
-                passes!(&values.freshest_crl, list => has_fault(PointFault::LdapIncomplete, list.0.as_slice())),
-            PointRule::FreshestCrlPointLdapWithoutHost =>
-                passes!(&values.freshest_crl, list => has_fault(PointFault::LdapWithoutHost, list.0.as_slice())),
+            PointRule::FreshestCrlPointUriInvalid => has_faulty_freshest(
+                PointFault::UriInvalid,
+                values,
+            ),
+            PointRule::FreshestCrlPointLdapIncomplete => has_faulty_freshest(
+                PointFault::LdapIncomplete,
+                values,
+            ),
+            PointRule::FreshestCrlPointLdapWithoutHost => has_faulty_freshest(
+                PointFault::LdapWithoutHost,
+                values,
+            ),
             PointRule::FreshestCrlNotJudged => is_unjudged::<FreshestCrl>(
                 Beyond::Names,
                 extensions_of(certificate),

@@ -274,6 +274,13 @@ impl Test<PolicyInformation> for PointerFault {
     }
 }
 
+/// Whether the certificate policies are read, and one of them passes the test.
+fn has_policy<P: Test<PolicyInformation>>(test: &P, values: &PolicyValues) -> bool
+    ensures { result ≡ passes (λ policies. list_any (P.holds_of test.now) policies.0) values.now.certificate_policies }
+{
+    passes!(&values.certificate_policies, policies => any_of(test, policies.0.as_slice()))
+}
+
 impl Group<CertificateInner<Raw>, PolicyValues> for PolicyRule {
     ghost use Rattle.x509_lint.specs.Policy.{policy_sentence};
     ghost use Rattle.x509_lint.specs.declared.rule.Rule.TheVariants.{Policy};
@@ -287,16 +294,11 @@ impl Group<CertificateInner<Raw>, PolicyValues> for PolicyRule {
             PolicyRule::CertificatePoliciesEmpty =>
                 passes!(&values.certificate_policies, policies => policies.0.as_slice().is_empty()),
             PolicyRule::CertificatePolicyRepeated => !values.are_policies_distinct,
-            PolicyRule::PolicyQualifiersEmpty =>
-                passes!(&values.certificate_policies, policies => any_of(&EmptyQualifiers, policies.0.as_slice())),
-            PolicyRule::AnyPolicyQualifierInvalid =>
-                passes!(&values.certificate_policies, policies => any_of(&OtherOfAnyPolicy, policies.0.as_slice())),
-            PolicyRule::PolicyQualifierOther =>
-                passes!(&values.certificate_policies, policies => any_of(&OtherOfPolicy, policies.0.as_slice())),
-            PolicyRule::CpsPointerMalformed =>
-                passes!(&values.certificate_policies, policies => any_of(&PointerFault::NoText, policies.0.as_slice())),
-            PolicyRule::CpsPointerNotUri =>
-                passes!(&values.certificate_policies, policies => any_of(&PointerFault::NoUri, policies.0.as_slice())),
+            PolicyRule::PolicyQualifiersEmpty => has_policy(&EmptyQualifiers, values),
+            PolicyRule::AnyPolicyQualifierInvalid => has_policy(&OtherOfAnyPolicy, values),
+            PolicyRule::PolicyQualifierOther => has_policy(&OtherOfPolicy, values),
+            PolicyRule::CpsPointerMalformed => has_policy(&PointerFault::NoText, values),
+            PolicyRule::CpsPointerNotUri => has_policy(&PointerFault::NoUri, values),
             PolicyRule::UserNoticeMalformed => values.has_unread_notice,
             PolicyRule::ExplicitTextTooLong => values.has_long_text,
             PolicyRule::ExplicitTextEmpty => values.has_empty_text,

@@ -42,23 +42,23 @@ first certificate parts =
 pub returns-clause-ok : goal.returns-clause-ok
 returns-clause-ok c =
     let parts : CertificateParts = record {
-      facts = c.in_ok-add_first.ensures.ok.0;
-      authority = c.in_ok-add_authority.ensures.ok.0;
-      key = c.in_ok-add_key.ensures.ok.0;
-      alternative = c.in_ok-add_alternative.ensures.ok.0;
-      policy = c.in_ok-add_policy.ensures.ok.0;
-      constraint = c.in_ok-add_constraint.ensures.ok.0;
-      point = c.in_ok-add_point.ensures.ok.0;
-      public_key = c.in_ok-add_public_key.ensures.ok.0;
+      facts = c.in_ok-facts.facts;
+      authority = c.in_ok-add_group.ensures.ok.0;
+      key = c.in_ok-add_group-2.ensures.ok.0;
+      alternative = c.in_ok-add_group-3.ensures.ok.0;
+      policy = c.in_ok-add_group-4.ensures.ok.0;
+      constraint = c.in_ok-add_group-5.ensures.ok.0;
+      point = c.in_ok-add_group-6.ensures.ok.0;
+      public_key = c.in_ok-add_group-7.ensures.ok.0;
     } in
     let p = breaks c.args.certificate.now parts in
-    let none : c.add_first.new.findings.items ≡ first_found c.args.certificate.now parts = rw c.new-findings.ensures.items at c.in_ok-add_first.ensures.ok.2 in
+    let none : c.add_first.new.findings.items ≡ first_found c.args.certificate.now parts = rw c.new-findings.ensures.items at c.in_ok-add_first.ensures in
     let so = none ∙ first c.args.certificate.now parts in
-    let so_authority = behind rules.Authority p (first_rules) authority_rules _ _ so c.in_ok-add_authority.ensures.ok.2 in
-    let so_key = behind rules.Key p (first_rules ++ map rules.Authority authority_rules) key_rules _ _ so_authority c.in_ok-add_key.ensures.ok.2 in
-    let so_alternative = behind rules.Alternative p (first_rules ++ map rules.Authority authority_rules ++ map rules.Key key_rules) alternative_rules _ _ so_key c.in_ok-add_alternative.ensures.ok.2 in
-    let so_policy = behind rules.Policy p (first_rules ++ map rules.Authority authority_rules ++ map rules.Key key_rules ++ map rules.Alternative alternative_rules) policy_rules _ _ so_alternative c.in_ok-add_policy.ensures.ok.2 in
-    let so_constraint = behind rules.Constraint p (first_rules ++ map rules.Authority authority_rules ++ map rules.Key key_rules ++ map rules.Alternative alternative_rules ++ map rules.Policy policy_rules) constraint_rules _ _ so_policy c.in_ok-add_constraint.ensures.ok.2 in
-    let so_point = behind rules.Point p (first_rules ++ map rules.Authority authority_rules ++ map rules.Key key_rules ++ map rules.Alternative alternative_rules ++ map rules.Policy policy_rules ++ map rules.Constraint constraint_rules) point_rules _ _ so_constraint c.in_ok-add_point.ensures.ok.2 in
-    let so_public_key = behind rules.PublicKey p (first_rules ++ map rules.Authority authority_rules ++ map rules.Key key_rules ++ map rules.Alternative alternative_rules ++ map rules.Policy policy_rules ++ map rules.Constraint constraint_rules ++ map rules.Point point_rules) public_key_rules _ _ so_point c.in_ok-add_public_key.ensures.ok.2 in
-    (parts, (c.in_ok-add_first.ensures.ok.1, c.in_ok-add_authority.ensures.ok.1, c.in_ok-add_key.ensures.ok.1, c.in_ok-add_alternative.ensures.ok.1, c.in_ok-add_policy.ensures.ok.1, c.in_ok-add_constraint.ensures.ok.1, c.in_ok-add_point.ensures.ok.1, c.in_ok-add_public_key.ensures.ok.1), so_public_key)
+    let so_authority = behind rules.Authority p (first_rules) authority_rules _ _ so c.in_ok-add_group.ensures.ok.2 in
+    let so_key = behind rules.Key p (first_rules ++ map rules.Authority authority_rules) key_rules _ _ so_authority c.in_ok-add_group-2.ensures.ok.2 in
+    let so_alternative = behind rules.Alternative p (first_rules ++ map rules.Authority authority_rules ++ map rules.Key key_rules) alternative_rules _ _ so_key c.in_ok-add_group-3.ensures.ok.2 in
+    let so_policy = behind rules.Policy p (first_rules ++ map rules.Authority authority_rules ++ map rules.Key key_rules ++ map rules.Alternative alternative_rules) policy_rules _ _ so_alternative c.in_ok-add_group-4.ensures.ok.2 in
+    let so_constraint = behind rules.Constraint p (first_rules ++ map rules.Authority authority_rules ++ map rules.Key key_rules ++ map rules.Alternative alternative_rules ++ map rules.Policy policy_rules) constraint_rules _ _ so_policy c.in_ok-add_group-5.ensures.ok.2 in
+    let so_point = behind rules.Point p (first_rules ++ map rules.Authority authority_rules ++ map rules.Key key_rules ++ map rules.Alternative alternative_rules ++ map rules.Policy policy_rules ++ map rules.Constraint constraint_rules) point_rules _ _ so_constraint c.in_ok-add_group-6.ensures.ok.2 in
+    let so_public_key = behind rules.PublicKey p (first_rules ++ map rules.Authority authority_rules ++ map rules.Key key_rules ++ map rules.Alternative alternative_rules ++ map rules.Policy policy_rules ++ map rules.Constraint constraint_rules ++ map rules.Point point_rules) public_key_rules _ _ so_point c.in_ok-add_group-7.ensures.ok.2 in
+    (parts, (c.in_ok-facts.ensures.ok, c.in_ok-add_group.ensures.ok.1, c.in_ok-add_group-2.ensures.ok.1, c.in_ok-add_group-3.ensures.ok.1, c.in_ok-add_group-4.ensures.ok.1, c.in_ok-add_group-5.ensures.ok.1, c.in_ok-add_group-6.ensures.ok.1, c.in_ok-add_group-7.ensures.ok.1), so_public_key)

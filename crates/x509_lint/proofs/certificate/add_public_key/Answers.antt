@@ -1,4 +1,0 @@
-use Rattle.x509_lint.proofs.certificate.add_public_key.Goals as goal
-
-pub returns-clause-ok : goal.returns-clause-ok
-returns-clause-ok c = (c.in_ok-values.values, c.in_ok-values.ensures.ok, c.in_ok-add_broken.ensures)
