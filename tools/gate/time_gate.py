@@ -8,7 +8,9 @@ run is interrupted. The processes of its checker are looked at every second, so 
 import argparse
 import collections
 import os
+import signal
 import subprocess
+import sys
 import threading
 import time
 
@@ -85,6 +87,7 @@ def main():
     parser.add_argument("crates", metavar="CRATE", nargs="*", help="all, if left out")
     said = parser.parse_args()
     seen, is_over, start = {}, threading.Event(), time.time()
+    signal.signal(signal.SIGTERM, lambda number, frame: sys.exit(number))
     gate = subprocess.Popen(["rt", "ci", *said.crates], stdout=subprocess.PIPE, stderr=subprocess.STDOUT, text=True)
     watcher = threading.Thread(target=watch, args=(str(gate.pid), seen, is_over))
     watcher.start()
@@ -97,6 +100,7 @@ def main():
                 log.flush()
         print(f"{last}, in {(time.time() - start) / 60:.0f} minutes")
     finally:
+        gate.terminate()
         is_over.set()
         watcher.join()
         table(seen)
