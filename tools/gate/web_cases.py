@@ -6,6 +6,7 @@ sections of docs/WEB_RULES.md, of which the severities, the sections and the day
 import datetime
 import ipaddress
 import json
+import math
 import pathlib
 import re
 
@@ -79,6 +80,13 @@ def accesses(*all_accesses):
 
 
 SMALL_PRIMES = [number for number in range(3, 752) if all(number % other for other in range(2, number))]
+
+# curves, each with the prime of its field (FIPS 186-4 D.1.2)
+PRIMES = [
+    (ec.SECP256R1(), 2**256 - 2**224 + 2**192 + 2**96 - 1),
+    (ec.SECP384R1(), 2**384 - 2**128 - 2**96 + 2**32 - 1),
+    (ec.SECP521R1(), 2**521 - 1),
+]
 
 # IANA's registries of special-purpose addresses, and multicast
 RESERVED = """
@@ -208,6 +216,15 @@ def modulus(factor=1, others=SMALL_PRIMES, above=0):
     return number.to_bytes(256, "big")
 
 
+def close(turn):
+    """The octets of a modulus near that of the key that Fermat's factorization factors in this round, the first being 0, and that no small prime divides."""
+    middle = math.isqrt(int.from_bytes(MODULUS, "big"))
+    apart = math.isqrt(middle * (2 * turn + 1))
+    while any((middle**2 - apart**2) % other == 0 for other in (2, *SMALL_PRIMES)):
+        apart += 1
+    return (middle**2 - apart**2).to_bytes(256, "big")
+
+
 def validated(policy=ORGANIZATION_VALIDATED, without=(), more=(), **changed):
     """A certificate of a TLS server of which more than the domain is validated. Its subject lacks attributes of some types, and has some more."""
     attributes = [*(it for it in ATTRIBUTES[policy] if it[0] not in without), *more]
@@ -268,6 +285,19 @@ def key_rules():
     yield server(patches=[(MODULUS + exponent, MODULUS + b"\2\3\1\0\2")]), "rsa_exponent_invalid"
     yield server(patches=[(MODULUS + exponent, MODULUS + b"\2\3\1\0\3")]), ""
     yield server(key=rsa.generate_private_key(3, 2048).public_key()), "rsa_exponent_outside"
+    for turn, rules in ((0, "rsa_factors_close"), (99, "rsa_factors_close"), (100, "")):
+        yield server(patches=[(MODULUS, close(turn))]), rules
+    # another y, the other point of the same x, and another form than that of an uncompressed point
+    for curve, prime in PRIMES:
+        key = ec.generate_private_key(curve).public_key()
+        octets = key.public_bytes(serialization.Encoding.X962, serialization.PublicFormat.UncompressedPoint)
+        y, size = key.public_numbers().y, len(octets) // 2
+        wrong, other = (octets[:-size] + it.to_bytes(size, "big") for it in (y ^ 1, prime - y))
+        for changed, rules in ((wrong, "ec_point_off_curve"), (other, ""), (b"\6" + wrong[1:], "")):
+            yield server(**OF_EC | {"key": key}, patches=[(octets, changed)]), rules
+    # a point of P-384 under the name of P-521
+    of_p384 = bytes.fromhex("06052b81040022")
+    yield server(**OF_EC | {"key": ec.generate_private_key(ec.SECP384R1()).public_key()}, patches=[(of_p384, of_p384[:-1] + b"\x23")]), ""
 
 
 def validity_rules():

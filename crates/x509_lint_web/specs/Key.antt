@@ -1,4 +1,4 @@
--- The rules on public keys (TLS BR 6.1.5, 6.1.6, 7.1.3.1).
+-- The rules on public keys (TLS BR 6.1.1.3, 6.1.5, 6.1.6, 7.1.3.1).
 use Rattle.std.specs.Prelude.{◌&&◌, ◌||◌, ◌==◌, ◌-◌, ◌%◌, ℕ, Bool, false, not, nat_lt, length, List, [], ◌∷◌, bytes_eq, codes, None}
 use Rattle.std.specs.List.{slice_get}
 use Rattle.x509_lint.specs.Words.{passes}
@@ -59,8 +59,10 @@ key_rules =
     ∷ rules.RsaModulusUneven
     ∷ rules.RsaModulusEven
     ∷ rules.RsaModulusSmallFactor
+    ∷ rules.RsaFactorsClose
     ∷ rules.RsaExponentInvalid
-    ∷ rules.RsaExponentOutside ∷ []
+    ∷ rules.RsaExponentOutside
+    ∷ rules.EcPointOffCurve ∷ []
 
 abbrev pub key_sentence : WebKeyRule → Sentence
 key_sentence rules.KeyAlgorithmOther =
@@ -84,9 +86,16 @@ key_sentence rules.RsaModulusEven =
 key_sentence rules.RsaModulusSmallFactor =
     should (codes "rsa_modulus_small_factor") (codes "6.1.6") (from_day 2013 1 1) (codes "tbsCertificate.subjectPublicKeyInfo")
     (λ c v. is_rsa (key_of c) && has_modulus has_small_factor v)
+key_sentence rules.RsaFactorsClose =
+    must (codes "rsa_factors_close") (codes "6.1.1.3") (from_day 2024 11 15) (codes "tbsCertificate.subjectPublicKeyInfo")
+    (λ c v. is_rsa (key_of c) && v.has_close_factors)
 key_sentence rules.RsaExponentInvalid =
     must (codes "rsa_exponent_invalid") (codes "6.1.6") (from_day 2013 1 1) (codes "tbsCertificate.subjectPublicKeyInfo")
     (λ c v. is_rsa (key_of c) && has_exponent is_no_exponent v)
 key_sentence rules.RsaExponentOutside =
     should (codes "rsa_exponent_outside") (codes "6.1.6") (from_day 2013 1 1) (codes "tbsCertificate.subjectPublicKeyInfo")
     (λ c v. is_rsa (key_of c) && has_exponent is_outside v)
+-- a compressed point isn't asked
+key_sentence rules.EcPointOffCurve =
+    should (codes "ec_point_off_curve") (codes "6.1.6") (from_day 2013 1 1) (codes "tbsCertificate.subjectPublicKeyInfo")
+    (λ c v. is_ec (key_of c) && v.has_point_off_curve)

@@ -2,6 +2,7 @@ pub mod Words
 pub mod Sentence
 pub mod Algorithm
 pub mod Factor
+pub mod Number
 pub mod Key
 pub mod Field
 pub mod Validity

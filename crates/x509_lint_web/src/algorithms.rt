@@ -42,13 +42,13 @@ const RSA_ENCRYPTION: ObjectIdentifier = oid!(0x2A, 0x86, 0x48, 0x86, 0xF7, 0x0D
 const EC_PUBLIC_KEY: ObjectIdentifier = oid!(0x2A, 0x86, 0x48, 0xCE, 0x3D, 0x02, 0x01);
 
 /// The content octets of secp256r1, 1.2.840.10045.3.1.7 (RFC 5480 2.1.1.1).
-const P256: [u8; 8] = [0x2A, 0x86, 0x48, 0xCE, 0x3D, 0x03, 0x01, 0x07];
+pub(crate) const P256: [u8; 8] = [0x2A, 0x86, 0x48, 0xCE, 0x3D, 0x03, 0x01, 0x07];
 
 /// Those of secp384r1, 1.3.132.0.34.
-const P384: [u8; 5] = [0x2B, 0x81, 0x04, 0x00, 34];
+pub(crate) const P384: [u8; 5] = [0x2B, 0x81, 0x04, 0x00, 34];
 
 /// Those of secp521r1, 1.3.132.0.35.
-const P521: [u8; 5] = [0x2B, 0x81, 0x04, 0x00, 35];
+pub(crate) const P521: [u8; 5] = [0x2B, 0x81, 0x04, 0x00, 35];
 
 /// The content octets of RSASSA-PSS-params for SHA-256 (RFC 8017 A.2.3).
 const PSS_SHA256: [u8; 52] = [
@@ -125,7 +125,8 @@ fn is_null_tag(tag: Tag) -> bool
     }
 }
 
-fn is_oid_tag(tag: Tag) -> bool
+/// Whether it is the tag of an OBJECT IDENTIFIER.
+pub(crate) fn is_oid_tag(tag: Tag) -> bool
     ensures { result ≡ algorithm.is_oid_tag tag }
 {
     match tag {

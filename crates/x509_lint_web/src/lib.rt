@@ -13,6 +13,7 @@ mod day;
 mod entry;
 mod factors;
 mod hosts;
+mod keys;
 mod labels;
 mod lint;
 mod names;

@@ -89,7 +89,7 @@ pub enum WebRule {
 }
 
 /// All rules, in their order.
-pub(crate) const WEB_RULES: [WebRule; 142] = [
+pub(crate) const WEB_RULES: [WebRule; 144] = [
     WebRule::Field(WebFieldRule::VersionNotV3),
     WebRule::Field(WebFieldRule::SignatureOfSha1),
     WebRule::Field(WebFieldRule::SignatureAlgorithmOther),
@@ -107,8 +107,10 @@ pub(crate) const WEB_RULES: [WebRule; 142] = [
     WebRule::Key(WebKeyRule::RsaModulusUneven),
     WebRule::Key(WebKeyRule::RsaModulusEven),
     WebRule::Key(WebKeyRule::RsaModulusSmallFactor),
+    WebRule::Key(WebKeyRule::RsaFactorsClose),
     WebRule::Key(WebKeyRule::RsaExponentInvalid),
     WebRule::Key(WebKeyRule::RsaExponentOutside),
+    WebRule::Key(WebKeyRule::EcPointOffCurve),
     WebRule::Validity(WebValidityRule::ValidityOver825Days),
     WebRule::Validity(WebValidityRule::ValidityOver398Days),
     WebRule::Validity(WebValidityRule::ValidityOver397Days),

@@ -354,6 +354,7 @@ dns_name_wildcard
 dns_name_xn_label_other
 domain_validated_attribute
 ec_curve_other
+ec_point_off_curve
 ec_without_digital_signature
 ecdsa_signature_parameters_present
 extended_key_usage_absent
@@ -415,6 +416,7 @@ root_validity_under_2922_days
 root_without_authority_key_identifier
 rsa_exponent_invalid
 rsa_exponent_outside
+rsa_factors_close
 rsa_key_parameters_not_null
 rsa_modulus_even
 rsa_modulus_short
