@@ -649,60 +649,91 @@ def not_before_of(data):
 
 
 def told(rules, moment, page):
-    """What is printed of a certificate that breaks these rules, and the status: a line for each rule that is in force."""
+    """What is printed of a certificate that breaks these rules, without what is seen, and the status: a line for each rule that is in force."""
     found = [(rule, severity, section) for rule, (severity, section, *days) in page.items() if rule in rules and is_in_force(moment, *days)]
     text = "".join(f"certificate: {severity} {rule} (TLS BR {section})\n" for rule, severity, section in found)
     return text, int(any(severity == "error" for _, severity, _ in found))
 
 
 def seen_of():
-    """Certificates, each with a rule that it breaks, the rule's place, and what is seen there."""
+    """Certificates, each with a rule that it breaks, the rule's place, what that is which is seen there, and what is seen, at one place or at several."""
     key, subject, names = "tbsCertificate.subjectPublicKeyInfo", "tbsCertificate.subject", "tbsCertificate.extensions.subjectAltName"
     of_rsa, of_sha1 = bytes.fromhex("06092a864886f70d01010b"), bytes.fromhex("06092a864886f70d010105")
-    yield server(patches=[(b"\xa0\3\2\1\2", b"\xa0\3\2\1\1")]), "version_not_v3", "tbsCertificate.version", ""
-    yield server(patches=[(of_rsa, of_sha1)]), "signature_of_sha1", "signatureAlgorithm", "1.2.840.113549.1.1.5"
-    yield server(key=ed25519.Ed25519PrivateKey.generate().public_key()), "key_algorithm_other", key, "1.3.101.112"
-    yield server(**OF_EC | {"key": ec.generate_private_key(ec.SECP256K1()).public_key()}), "ec_curve_other", key, "2b8104000a"
+    yield server(patches=[(b"\xa0\3\2\1\2", b"\xa0\3\2\1\1")]), "version_not_v3", "tbsCertificate.version", "nothing", ""
+    yield server(patches=[(of_rsa, of_sha1)]), "signature_of_sha1", "signatureAlgorithm", "OID", "1.2.840.113549.1.1.5"
+    yield server(key=ed25519.Ed25519PrivateKey.generate().public_key()), "key_algorithm_other", key, "OID", "1.3.101.112"
+    yield server(**OF_EC | {"key": ec.generate_private_key(ec.SECP256K1()).public_key()}), "ec_curve_other", key, "octets", "2b8104000a"
     short = rsa.generate_private_key(65537, 1024).public_key()
     octets = short.public_bytes(serialization.Encoding.DER, serialization.PublicFormat.PKCS1)
-    yield server(key=short), "rsa_modulus_short", key, octets[:32].hex() + ".."
-    yield server(lasts=0 * SECOND), "validity_over_46_days", "tbsCertificate.validity", "2024-01-01T00:00:00Z/2024-02-16T00:00:00Z"
-    yield server(names=hosts("a.example.com", "b_c.example.com", "d_e.example.com")), "dns_name_underscore", names, "b_c.example.com"
+    yield server(key=short), "rsa_modulus_short", key, "octets", octets[:32].hex() + ".."
+    yield server(lasts=0 * SECOND), "validity_over_46_days", "tbsCertificate.validity", "dates", "2024-01-01T00:00:00Z/2024-02-16T00:00:00Z"
+    yield server(names=hosts("a.example.com", "b_c.example.com", "d_e.example.com")), "dns_name_underscore", names, "dNSName", "b_c.example.com", "d_e.example.com"
     odd = [(b"b_c.example.com", b"b\"\\\1_xample.com")]
-    yield server(names=hosts("b_c.example.com"), patches=odd), "dns_name_underscore", names, "b\"\\\1_xample.com"
-    yield server(names=addresses("9.9.9.9", "10.1.2.3")), "address_reserved", names, "0a010203"
-    yield server(names=x509.SubjectAlternativeName([x509.DNSName("a.example.com"), uri("http://a")])), "subject_alt_name_other", names, "http://a"
-    yield server(names=None), "subject_alt_name_absent", names, ""
-    yield server(marked=["names"], names=hosts("a.example.com")), "subject_alt_name_critical", names, "300f820d612e6578616d706c652e636f6d"
+    yield server(names=hosts("b_c.example.com"), patches=odd), "dns_name_underscore", names, "dNSName", "b\"\\\1_xample.com"
+    yield server(names=addresses("9.9.9.9", "10.1.2.3")), "address_reserved", names, "iPAddress", "0a010203"
+    yield server(names=x509.SubjectAlternativeName([x509.DNSName("a.example.com"), uri("http://a")])), "subject_alt_name_other", names, "uniformResourceIdentifier", "http://a"
+    yield server(names=None), "subject_alt_name_absent", names, "nothing", ""
+    yield server(marked=["names"], names=hosts("a.example.com")), "subject_alt_name_critical", names, "octets", "300f820d612e6578616d706c652e636f6d"
     quoted = name((COUNTRY, "NL"), (LOCALITY, 'x"y'))
-    yield server(subject=quoted), "domain_validated_attribute", subject, 'L=x\\"y,C=NL'
-    yield server(unmarked=["usage"]), "key_usage_not_critical", "tbsCertificate.extensions.keyUsage", "030205a0"
-    yield server(key_id=x509.SubjectKeyIdentifier(KEY_ID)), "subject_key_identifier_present", "tbsCertificate.extensions.subjectKeyIdentifier", f"0414{KEY_ID.hex()}"
-    yield server(policies=policies("1.2.3.4")), "reserved_policy_absent", "tbsCertificate.extensions.certificatePolicies", "300730050603" + "2a0304"
-    yield authority(points=None), "subordinate_without_crl_points", "tbsCertificate.extensions.cRLDistributionPoints", ""
-    yield server(names=hosts("a.example.com", "b.12", "c.d.3")), "dns_name_numeric", names, "b.12"
-    yield server(subject=name((COUNTRY, "QQ"))), "country_unknown", subject, "C=QQ"
-    yield server(points=None, accesses=accesses((CA_ISSUERS, "http://o")), days=8), "revocation_absent_over_7_days", "tbsCertificate.extensions", ""
-    yield root(issuer_key=None), "root_without_authority_key_identifier", "tbsCertificate.extensions.authorityKeyIdentifier", ""
-    yield root(constraints=x509.BasicConstraints(True, 0)), "root_path_len_present", "tbsCertificate.extensions.basicConstraints", "30060101ff020100"
-    yield root(names=hosts("a.example.com")), "root_extension_other", "tbsCertificate.extensions", ""
-    yield root(days=9132, lasts=0 * SECOND), "root_validity_over_9132_days", "tbsCertificate.validity", "2024-01-01T00:00:00Z/2049-01-01T00:00:00Z"
-    yield authority(marked=["purposes"]), "subordinate_extended_key_usage_critical", "tbsCertificate.extensions.extKeyUsage", "300a06082b06010505070301"
-    yield responder(marked=["no_check"]), "ocsp_no_check_critical", "tbsCertificate.extensions.ocspNoCheck", "0500"
+    yield server(subject=quoted), "domain_validated_attribute", subject, "name", 'L=x\\"y,C=NL'
+    yield server(unmarked=["usage"]), "key_usage_not_critical", "tbsCertificate.extensions.keyUsage", "octets", "030205a0"
+    yield server(key_id=x509.SubjectKeyIdentifier(KEY_ID)), "subject_key_identifier_present", "tbsCertificate.extensions.subjectKeyIdentifier", "octets", f"0414{KEY_ID.hex()}"
+    yield server(policies=policies("1.2.3.4")), "reserved_policy_absent", "tbsCertificate.extensions.certificatePolicies", "octets", "300730050603" + "2a0304"
+    yield authority(points=None), "subordinate_without_crl_points", "tbsCertificate.extensions.cRLDistributionPoints", "nothing", ""
+    yield server(names=hosts("a.example.com", "b.12", "c.d.3")), "dns_name_numeric", names, "dNSName", "b.12", "c.d.3"
+    yield server(subject=name((COUNTRY, "QQ"))), "country_unknown", subject, "name", "C=QQ"
+    yield server(points=None, accesses=accesses((CA_ISSUERS, "http://o")), days=8), "revocation_absent_over_7_days", "tbsCertificate.extensions", "nothing", ""
+    yield root(issuer_key=None), "root_without_authority_key_identifier", "tbsCertificate.extensions.authorityKeyIdentifier", "nothing", ""
+    yield root(constraints=x509.BasicConstraints(True, 0)), "root_path_len_present", "tbsCertificate.extensions.basicConstraints", "octets", "30060101ff020100"
+    yield root(names=hosts("a.example.com")), "root_extension_other", "tbsCertificate.extensions", "nothing", ""
+    yield root(days=9132, lasts=0 * SECOND), "root_validity_over_9132_days", "tbsCertificate.validity", "dates", "2024-01-01T00:00:00Z/2049-01-01T00:00:00Z"
+    yield authority(marked=["purposes"]), "subordinate_extended_key_usage_critical", "tbsCertificate.extensions.extKeyUsage", "octets", "300a06082b06010505070301"
+    yield responder(marked=["no_check"]), "ocsp_no_check_critical", "tbsCertificate.extensions.ocspNoCheck", "octets", "0500"
     listed = "tbsCertificate.extensions.signedCertificateTimestampList"
-    yield server(poison=x509.PrecertPoison(), timestamps=TIMESTAMPS), "precertificate_with_timestamps", listed, "04020000"
+    yield server(poison=x509.PrecertPoison(), timestamps=TIMESTAMPS), "precertificate_with_timestamps", listed, "octets", "04020000"
     any_purpose = key_purposes(ExtendedKeyUsageOID.ANY_EXTENDED_KEY_USAGE)
-    yield authority(purposes=any_purpose), "constrained_purpose_forbidden", "tbsCertificate.extensions.extKeyUsage", "30060604551d2500"
+    yield authority(purposes=any_purpose), "constrained_purpose_forbidden", "tbsCertificate.extensions.extKeyUsage", "octets", "30060604551d2500"
     hosts_alone = x509.NameConstraints([x509.DNSName("a"), x509.DirectoryName(x509.Name([]))], None)
-    yield authority(permitted=hosts_alone), "constrained_without_addresses", "tbsCertificate.extensions.nameConstraints", "300da00b30038201613004a4023000"
+    yield authority(permitted=hosts_alone), "constrained_without_addresses", "tbsCertificate.extensions.nameConstraints", "octets", "300da00b30038201613004a4023000"
+
+
+def others():
+    """Names of each kind but dNSName and iPAddress, each with what that is and what is seen of it."""
+    other = x509.OtherName(ObjectIdentifier("1.3.6.1.5.5.7.8.9"), b"\x0c\1a")
+    directory = x509.Name([x509.NameAttribute(COUNTRY, "NL"), x509.NameAttribute(ORGANIZATION, "a,b")])
+    yield x509.RFC822Name("a@example.com"), "rfc822Name", "a@example.com"
+    yield x509.DirectoryName(directory), "directoryName", r"O=a\,b,C=NL"
+    yield uri("http://a/?b=c"), "uniformResourceIdentifier", "http://a/?b=c"
+    yield x509.RegisteredID(ObjectIdentifier("1.2.840.113549")), "registeredID", "1.2.840.113549"
+    yield other, "otherName", "1.3.6.1.5.5.7.8.9"
+
+
+def line_of(rule, kind, seen, page):
+    """The line of a finding for people."""
+    severity, section, *_ = page[rule]
+    return f"certificate: {severity} {rule} (TLS BR {section})" + (f"\t{kind} {json.dumps(seen)}" if seen else "") + "\n"
+
+
+def json_of(rule, place, kind, seen, page):
+    """The line of a finding as an object of JSON."""
+    severity, section, *_ = page[rule]
+    members = {"file": "standard input", "object": "certificate", "rule": rule, "severity": severity, "section": f"TLS BR {section}", "place": place, "seen": seen}
+    return json.dumps(members | {"seen_as": kind}) + "\n"
 
 
 def seen_runs(page):
-    """Runs with `--json`."""
-    for data, rule, place, seen in seen_of():
-        severity, section, *_ = page[rule]
-        members = {"file": "standard input", "object": "certificate", "rule": rule, "severity": severity, "section": f"TLS BR {section}", "place": place, "seen": seen}
-        yield f"JSON of {rule}", ["--web", NOW, "--json"], data, json.dumps(members) + "\n", int(severity == "error")
+    """Runs that show what is seen, with `--json` and without."""
+    for data, rule, place, kind, *all_seen in seen_of():
+        status = int(page[rule][0] == "error")
+        yield f"JSON of {rule}", ["--web", NOW, "--json"], data, "".join(json_of(rule, place, kind, seen, page) for seen in all_seen), status
+        yield f"what is seen of {rule}", ["--web", NOW], data, "".join(line_of(rule, kind, seen, page) for seen in all_seen), status
+    rule, place = "subject_alt_name_other", "tbsCertificate.extensions.subjectAltName"
+    data = server(names=x509.SubjectAlternativeName([x509.DNSName("a.example.com"), *(it for it, _, _ in others())]))
+    told = [(kind, seen) for _, kind, seen in others()]
+    yield "JSON of names of each kind", ["--web", NOW, "--json"], data, "".join(json_of(rule, place, *it, page) for it in told), 1
+    yield "names of each kind", ["--web", NOW], data, "".join(line_of(rule, *it, page) for it in told), 1
+    severity, section, *_ = page[rule]
+    yield "a summary of names of each kind", ["--web", "--count", NOW], data, f"{len(told)} certificate: {severity} {rule} (TLS BR {section})\n", 1
     yield "JSON of a certificate that breaks no rule", ["--json", "--web", NOW], server(), "", 0
     yield "a certificate that breaks no rule, with -v", ["--web", "-v", NOW], server(), "nothing found\n", 0
 

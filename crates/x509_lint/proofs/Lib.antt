@@ -5,4 +5,5 @@ pub mod Right
 pub mod SortedOids
 pub mod CrlFindings
 pub mod EntryWalks
+pub mod LabelSteps
 pub mod ListSaid

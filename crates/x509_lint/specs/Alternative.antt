@@ -177,6 +177,7 @@ alternative_rules =
     ∷ rules.SubjectAltNameEmpty
     ∷ rules.SubjectAltNameEmptyName
     ∷ rules.SubjectAltNameDnsNameInvalid
+    ∷ rules.SubjectAltNameDnsNameUnnormalized
     ∷ rules.SubjectAltNameAddressLength
     ∷ rules.SubjectAltNameMailboxInvalid
     ∷ rules.SubjectAltNameUriRelative
@@ -189,6 +190,7 @@ alternative_rules =
     ∷ rules.IssuerAltNameEmpty
     ∷ rules.IssuerAltNameEmptyName
     ∷ rules.IssuerAltNameDnsNameInvalid
+    ∷ rules.IssuerAltNameDnsNameUnnormalized
     ∷ rules.IssuerAltNameAddressLength
     ∷ rules.IssuerAltNameMailboxInvalid
     ∷ rules.IssuerAltNameUriRelative
@@ -212,6 +214,9 @@ alternative_sentence rules.SubjectAltNameEmptyName =
 alternative_sentence rules.SubjectAltNameDnsNameInvalid =
     must (codes "subject_alt_name_dns_name_invalid") (codes "4.2.1.6") (codes "tbsCertificate.extensions.subjectAltName")
     (λ c v. passes (λ s. list_any is_no_dns_name s.0) v.subject_alt_name)
+alternative_sentence rules.SubjectAltNameDnsNameUnnormalized =
+    must_of (codes "RFC 5891") (codes "subject_alt_name_dns_name_not_normalized") (codes "5.4") (codes "tbsCertificate.extensions.subjectAltName")
+    (λ c v. v.has_unnormalized_subject)
 alternative_sentence rules.SubjectAltNameAddressLength =
     must (codes "subject_alt_name_address_length") (codes "4.2.1.6") (codes "tbsCertificate.extensions.subjectAltName")
     (λ c v. passes (λ s. list_any is_no_address s.0) v.subject_alt_name)
@@ -248,6 +253,9 @@ alternative_sentence rules.IssuerAltNameEmptyName =
 alternative_sentence rules.IssuerAltNameDnsNameInvalid =
     must (codes "issuer_alt_name_dns_name_invalid") (codes "4.2.1.7") (codes "tbsCertificate.extensions.issuerAltName")
     (λ c v. passes (λ s. list_any is_no_dns_name s.0) v.issuer_alt_name)
+alternative_sentence rules.IssuerAltNameDnsNameUnnormalized =
+    must_of (codes "RFC 5891") (codes "issuer_alt_name_dns_name_not_normalized") (codes "5.4") (codes "tbsCertificate.extensions.issuerAltName")
+    (λ c v. v.has_unnormalized_issuer)
 alternative_sentence rules.IssuerAltNameAddressLength =
     must (codes "issuer_alt_name_address_length") (codes "4.2.1.7") (codes "tbsCertificate.extensions.issuerAltName")
     (λ c v. passes (λ s. list_any is_no_address s.0) v.issuer_alt_name)

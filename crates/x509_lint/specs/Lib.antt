@@ -1,6 +1,7 @@
 pub mod Wording
 pub mod Sentence
 pub mod Words
+pub mod Label
 pub mod Uri
 pub mod BasicConstraints
 pub mod SkipCerts

@@ -47,9 +47,13 @@ abbrev pub place_members : Wording → List ℕ → List ℕ
 place_members w seen =
     codes "\"section\": \"" ++ (w.standard ++ (codes " " ++ (w.section ++ (codes "\", \"place\": \"" ++ (w.place ++ (codes "\", \"seen\": \"" ++ (seen ++ codes "\"")))))))
 
--- the object of JSON (RFC 8259), and a line feed; no member of x509_lint's has a character that would be quoted
+-- the object of JSON (RFC 8259), more members behind these, and a line feed
+abbrev pub json_line_with : List ℕ → List ℕ → List ℕ → Wording → List ℕ → List ℕ
+json_line_with more front word w seen = front ++ (what_members word w ++ (codes ", " ++ (place_members w seen ++ (more ++ codes "}\n"))))
+
+-- without more members; none of x509_lint's has a character that would be quoted
 abbrev pub json_line : List ℕ → List ℕ → Wording → List ℕ → List ℕ
-json_line front word w seen = front ++ (what_members word w ++ (codes ", " ++ (place_members w seen ++ codes "}\n")))
+json_line front word w seen = json_line_with [] front word w seen
 
 abbrev pub line_of : Option (List ℕ) → List ℕ → (Rule → List ℕ) → Rule → List ℕ
 line_of None word seen rule = text_line word rule

@@ -21,6 +21,7 @@ use Rattle.x509_lint.specs.Alternative.{is_at_other_host, is_empty_name, is_no_a
 use Rattle.x509_lint.specs.Beyond.{is_unjudged}
 use Rattle.x509_lint.specs.declared.beyond.Beyond.TheVariants.{Names}
 use Rattle.x509_lint.specs.List.{extension_text}
+use Rattle.x509_lint.specs.Label.{is_unnormalized_name}
 use Rattle.x509_lint.specs.Name.{has_empty_rdn, has_no_country}
 use Rattle.x509_lint.specs.Notices.{value_read}
 use Rattle.x509_lint.specs.Read.{AreExtensionsRead, is_read}
@@ -117,6 +118,7 @@ AreRequestValues r v =
     × (IsTrue v.is_repeated ↔ IsRepeated (requested_extensions v.requested))
     × AreExtensionsRead (requested_extensions v.requested) v.read
     × IsValue subject_alt_name (id_ce 17) (requested_extensions v.requested) v.subject_alt_name
+    × (v.has_unnormalized_name ≡ passes (λ s. list_any is_unnormalized_name s.0) v.subject_alt_name)
     × (IsTrue v.is_subject_distinct ↔ All HasDistinctTypes r.info.subject)
 
 -- ---- the rules, in their order
@@ -220,6 +222,7 @@ request_name_rules =
     names.SubjectAltNameEmpty
     ∷ names.SubjectAltNameEmptyName
     ∷ names.SubjectAltNameDnsNameInvalid
+    ∷ names.SubjectAltNameDnsNameUnnormalized
     ∷ names.SubjectAltNameAddressLength
     ∷ names.SubjectAltNameMailboxInvalid
     ∷ names.SubjectAltNameUriRelative
@@ -240,6 +243,9 @@ request_name_sentence names.SubjectAltNameEmptyName =
 request_name_sentence names.SubjectAltNameDnsNameInvalid =
     must (codes "subject_alt_name_dns_name_invalid") (codes "4.2.1.6") (codes "certificationRequestInfo.attributes.extensionRequest.subjectAltName")
     (λ r v. passes (λ s. list_any is_no_dns_name s.0) v.subject_alt_name)
+request_name_sentence names.SubjectAltNameDnsNameUnnormalized =
+    must_of (codes "RFC 5891") (codes "subject_alt_name_dns_name_not_normalized") (codes "5.4") (codes "certificationRequestInfo.attributes.extensionRequest.subjectAltName")
+    (λ r v. v.has_unnormalized_name)
 request_name_sentence names.SubjectAltNameAddressLength =
     must (codes "subject_alt_name_address_length") (codes "4.2.1.6") (codes "certificationRequestInfo.attributes.extensionRequest.subjectAltName")
     (λ r v. passes (λ s. list_any is_no_address s.0) v.subject_alt_name)

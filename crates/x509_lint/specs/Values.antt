@@ -29,6 +29,7 @@ use Rattle.x509_name.specs.declared.attr.type_and_value.AttributeTypeAndValue.{A
 use Rattle.x509_ext.specs.PolicyMapping.{policy_mappings}
 use Rattle.x509_lint.specs.BasicConstraints.{any_basic_constraints}
 use Rattle.x509_lint.specs.CrlEntry.{AreNoted}
+use Rattle.x509_lint.specs.Label.{is_unnormalized_name}
 use Rattle.x509_lint.specs.Notices.{has_faulty_notice}
 use Rattle.x509_lint.specs.declared.notices.NoticeFault.TheVariants.{Long, NoText, OldType, Ia5Type, Control, Reference, Unnormalized, Unread}
 use Rattle.x509_lint.specs.SkipCerts.{any_policy_constraints}
@@ -89,7 +90,10 @@ AreKeyValues extensions v =
     × IsValue private_key_usage_period (id_ce 16) extensions v.private_key_usage_period
 
 abbrev pub AreAlternativeValues : List Extension → AlternativeValues → Type 0
-AreAlternativeValues extensions v = IsValue subject_alt_name (id_ce 17) extensions v.subject_alt_name × IsValue issuer_alt_name (id_ce 18) extensions v.issuer_alt_name
+AreAlternativeValues extensions v =
+    IsValue subject_alt_name (id_ce 17) extensions v.subject_alt_name × IsValue issuer_alt_name (id_ce 18) extensions v.issuer_alt_name
+    × (v.has_unnormalized_subject ≡ passes (λ s. list_any is_unnormalized_name s.0) v.subject_alt_name)
+    × (v.has_unnormalized_issuer ≡ passes (λ s. list_any is_unnormalized_name s.0) v.issuer_alt_name)
 
 abbrev pub ArePolicyValues : List Extension → PolicyValues → Type 0
 ArePolicyValues extensions v =

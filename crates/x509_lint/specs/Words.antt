@@ -1,5 +1,6 @@
 -- Words that several rules use.
-use Rattle.std.specs.Prelude.{◌≡◌, ◌↔◌, ◌&&◌, ◌==◌, ℕ, Bool, false, not, nat_lt, List, [], ◌∷◌, length, Option, Some, None, bytes_eq}
+use Rattle.std.specs.Prelude.{◌≡◌, ◌↔◌, ◌&&◌, ◌==◌, ℕ, Bool, false, not, nat_lt, List, [], ◌∷◌, length, map, Option, Some, None, bytes_eq}
+use Rattle.std.specs.Char.{to_ascii_lowercase}
 use Rattle.std.specs.List.{list_any}
 use Rattle.x509_base.specs.CivilTime.{unix_seconds}
 use Rattle.x509_base.specs.Time.{date_time_of}
@@ -25,7 +26,11 @@ extensions_of c = members c.tbs_certificate.extensions
 abbrev pub crl_extensions_of : Crl → List Extension
 crl_extensions_of l = members l.tbs_cert_list.crl_extensions
 
--- ---- what may be absent, and lists
+-- ---- texts, what may be absent, and lists
+
+-- without regard to ASCII case
+abbrev pub is_same : List ℕ → List ℕ → Bool
+is_same text other = bytes_eq (map to_ascii_lowercase text) (map to_ascii_lowercase other)
 
 abbrev pub is_empty : {X : Type 0} → List X → Bool
 is_empty xs = length xs == 0

@@ -1,5 +1,5 @@
 //! The rules on certificates (RFC 5280; their keys and signatures: RFC 3279, 4055, 5480, 5758, 8017, 8410, 8813, 9295; what stands in names and extensions: RFC 3739, 3986,
-//! 4519, 4985, 6818, 6960, 6962, 7633, 9598, X.501), CRLs (RFC 5280), CSRs (RFC 2986, 2985) and trust anchors (RFC 5914) that no grammar has: which of them an object
+//! 4519, 4985, 5891, 6818, 6960, 6962, 7633, 9598, X.501), CRLs (RFC 5280), CSRs (RFC 2986, 2985) and trust anchors (RFC 5914) that no grammar has: which of them an object
 //! breaks.
 //!
 //! Words of our own are explained in `docs/MAP.md`.
@@ -18,6 +18,7 @@ mod entry;
 pub mod extensions;
 mod facts;
 mod group;
+pub mod labels;
 mod lists;
 mod names;
 mod notices;

@@ -253,17 +253,18 @@ fn text_line(alloc: Global, word: &str, rule: Rule) -> Result<String, AllocError
     Ok(line)
 }
 
-/// The line of a finding on an object that is called so, as an object of JSON in the style [`Style::Json`]: what is seen has to be as it stands
-/// between quotation marks.
+/// The line of a finding on an object that is called so, as an object of JSON in the style [`Style::Json`], with more members behind those, each with
+/// a comma in front: what is seen has to be as it stands between quotation marks.
 pub fn json_line(
     alloc: Global,
     front: &str,
     word: &str,
     entry: Entry,
     seen: &str,
+    more: &str,
 ) -> Result<String, AllocError>
     ensures { (wording : Wording) → Says entry wording
-        → IfOk result (λ line. string_bytes line ≡ grammar.json_line front.now word.now wording seen.now) }
+        → IfOk result (λ line. string_bytes line ≡ grammar.json_line_with more.now front.now word.now wording seen.now) }
 {
     let Entry {
         severity,
@@ -278,7 +279,7 @@ pub fn json_line(
     let place = format!(in alloc;
         "\"section\": \"{standard} {section}\", \"place\": \"{place}\", \"seen\": \"{seen}\""
     )?;
-    format!(in alloc; "{front}{what}, {place}}}\n")
+    format!(in alloc; "{front}{what}, {place}{more}}}\n")
 }
 
 /// The line of a finding.
@@ -294,7 +295,7 @@ fn line<T: Linted>(
         Style::Text => text_line(alloc, T::word(), rule),
         Style::Json(front) => {
             let seen = object.seen(alloc, rule)?;
-            json_line(alloc, front, T::word(), rule.entry(), seen.as_str())
+            json_line(alloc, front, T::word(), rule.entry(), seen.as_str(), "")
         }
     }
 }

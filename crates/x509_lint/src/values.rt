@@ -11,6 +11,7 @@ use crate::asserted::has_unasserted;
 use crate::basic_constraints::AnyBasicConstraints;
 use crate::extensions::{extensions_of, payload, spelled};
 use crate::group::Values;
+use crate::labels::{has_unnormalized_issuer, has_unnormalized_subject};
 use crate::notices::{NoticeFault, has_faulty_notice};
 use crate::repeats::{are_policies_distinct, policies_of};
 use crate::skip_certs::AnyPolicyConstraints;
@@ -113,6 +114,10 @@ impl Values for KeyValues {
 pub(crate) struct AlternativeValues {
     pub(crate) subject_alt_name: Option<SubjectAltName>,
     pub(crate) issuer_alt_name: Option<IssuerAltName>,
+
+    /// A dNSName of the subject has a label of IDNA whose text isn't in Normalization Form C, and one of the issuer.
+    pub(crate) has_unnormalized_subject: bool,
+    pub(crate) has_unnormalized_issuer: bool,
 }
 
 impl Drop for AlternativeValues {
@@ -120,6 +125,8 @@ impl Drop for AlternativeValues {
         let AlternativeValues {
             subject_alt_name: _,
             issuer_alt_name: _,
+            has_unnormalized_subject: _,
+            has_unnormalized_issuer: _,
         } = self;
     }
 }
@@ -128,9 +135,13 @@ fn alternative_values(alloc: Global, extensions: &[Extension]) -> Result<Alterna
     ensures ok { IfOk result (AreAlternativeValues extensions.now) }
     ensures err { IfErr result (λ e. e.kind ≡ Memory) }
 {
+    let subject_alt_name = payload(alloc, extensions)?;
+    let issuer_alt_name = payload(alloc, extensions)?;
     Ok(AlternativeValues {
-        subject_alt_name: payload(alloc, extensions)?,
-        issuer_alt_name: payload(alloc, extensions)?,
+        has_unnormalized_subject: has_unnormalized_subject(alloc, &subject_alt_name)?,
+        has_unnormalized_issuer: has_unnormalized_issuer(alloc, &issuer_alt_name)?,
+        subject_alt_name,
+        issuer_alt_name,
     })
 }
 

@@ -6,8 +6,8 @@ use Rattle.std.specs.Net.Text.{hex_groups_text, ipv4_text}
 use Rattle.x509_ext.specs.declared.pkix.name.general_name.GeneralName.{GeneralName}
 use Rattle.x509_ext.specs.declared.pkix.name.general_name.GeneralName.TheVariants.{DnsName, IpAddress}
 use Rattle.x509_lint.specs.Text.{id_at}
+use Rattle.x509_lint.specs.Words.{is_same}
 use Rattle.x509_lint_web.specs.Host.{has_octet, has_xn_label, is_beyond_ascii}
-use Rattle.x509_lint_web.specs.Words.{is_same}
 use Rattle.x509_lint_web.specs.declared.common_names.CommonNameFault.{CommonNameFault}
 use Rattle.x509_lint_web.specs.declared.common_names.CommonNameFault.TheVariants.{Stray, Rewritten}
 use Rattle.x509_name.specs.declared.attr.type_and_value.AttributeTypeAndValue.{AttributeTypeAndValue}

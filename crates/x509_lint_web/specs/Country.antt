@@ -1,7 +1,7 @@
 -- Countries by their two letters: the alpha-2 codes of ISO 3166-1, as they were on 2025-01-01, and XX, which stands for one that has none (TLS BR 7.1.2.7.4).
 use Rattle.std.specs.Prelude.{◌==◌, ◌++◌, ℕ, Bool, List, codes}
 use Rattle.std.specs.List.{list_any, slice_split}
-use Rattle.x509_lint_web.specs.Words.{is_same}
+use Rattle.x509_lint.specs.Words.{is_same}
 
 unfoldable pub country_codes : List ℕ
 country_codes =

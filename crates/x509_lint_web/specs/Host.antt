@@ -3,8 +3,8 @@ use Rattle.std.specs.Prelude.{◌&&◌, ◌||◌, ◌==◌, ◌-◌, ℕ, Bool, 
 use Rattle.std.specs.Char.{is_ascii_alphabetic, is_ascii_digit}
 use Rattle.std.specs.List.{list_all, list_any, slice_get}
 use Rattle.x509_host.specs.Host.{behind_wildcard, labels_of}
-use Rattle.x509_lint.specs.Words.{passes}
-use Rattle.x509_lint_web.specs.Words.{is_same}
+use Rattle.x509_lint.specs.Label.{is_xn_label}
+use Rattle.x509_lint.specs.Words.{is_same, passes}
 
 abbrev pub has_octet : ℕ → List ℕ → Bool
 has_octet octet text = list_any (λ o. o == octet) text
@@ -21,10 +21,7 @@ is_reserved_label other = false
 abbrev pub has_reserved_label : List ℕ → Bool
 has_reserved_label text = list_any is_reserved_label (labels_of text)
 
--- a label as IDNA writes one that isn't ASCII (RFC 5890 2.3.2.1)
-abbrev pub is_xn_label : List ℕ → Bool
-is_xn_label label = nat_le 4 (length label) && is_same (take 4 label) (codes "xn--")
-
+-- some label is as IDNA writes one that isn't ASCII (RFC 5890 2.3.2.1)
 abbrev pub has_xn_label : List ℕ → Bool
 has_xn_label text = list_any is_xn_label (labels_of text)
 

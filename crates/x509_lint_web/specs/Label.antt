@@ -6,7 +6,7 @@ use Rattle.idna.specs.Punycode.{decode}
 use Rattle.x509_ext.specs.declared.pkix.name.general_name.GeneralName.{GeneralName}
 use Rattle.x509_ext.specs.declared.pkix.name.general_name.GeneralName.TheVariants.{DnsName}
 use Rattle.x509_host.specs.Host.{labels_of}
-use Rattle.x509_lint_web.specs.Host.{is_xn_label}
+use Rattle.x509_lint.specs.Label.{is_xn_label}
 
 -- a text that can be decoded, in a label of 63 octets at most (RFC 1035 2.3.4)
 abbrev pub is_punycode : List ℕ → Bool

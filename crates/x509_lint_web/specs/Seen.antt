@@ -1,18 +1,16 @@
 -- What is seen of a certificate where it breaks a rule: of the part that the rule speaks of.
-use Rattle.std.specs.Prelude.{ℕ, List, [], ◌∷◌, ◌++◌, Option, Some, None, codes, if◌then◌else◌}
+use Rattle.std.specs.Prelude.{ℕ, List, [], ◌++◌, Option, Some, None, codes}
 use Rattle.x509_base.specs.Time.{date_time_of}
 use Rattle.x509_base.specs.TimeText.{date_time_text}
 use Rattle.x509_der.specs.Arcs.{dotted}
 use Rattle.x509_der.specs.ObjectIdentifier.{arcs_of}
 use Rattle.x509_der.specs.declared.any.Any.{Any}
 use Rattle.x509_ext.specs.Identifiers.{id_ce, id_pkix}
-use Rattle.x509_ext.specs.declared.pkix.alternative_names.SubjectAltName.{SubjectAltName}
 use Rattle.x509_ext.specs.declared.pkix.name.general_name.GeneralName.{GeneralName}
-use Rattle.x509_ext.specs.declared.pkix.name.general_name.GeneralName.TheVariants.{Rfc822Name, DnsName, UniformResourceIdentifier, IpAddress}
+use Rattle.x509_ext.specs.declared.pkix.name.general_name.GeneralName.TheVariants.{OtherName, Rfc822Name, DnsName, DirectoryName, EdiPartyName, UniformResourceIdentifier, IpAddress, RegisteredId}
 use Rattle.x509_lint.specs.OtherTypes.{ocsp_no_check}
 use Rattle.x509_lint.specs.Seen.{shortened, value_seen}
 use Rattle.x509_lint.specs.Words.{Certificate, extensions_of}
-use Rattle.x509_lint_web.specs.Name.{has_fault}
 use Rattle.x509_lint_web.specs.Precertificate.{timestamp_list}
 use Rattle.x509_lint_web.specs.Words.{key_of}
 use Rattle.x509_lint_web.specs.declared.names.NameFault.{NameFault}
@@ -43,7 +41,8 @@ use Rattle.x509_lint_web.specs.declared.rule.usage.WebUsageRule.{WebUsageRule}
 use Rattle.x509_lint_web.specs.declared.rule.usage.WebUsageRule.TheVariants as usage
 use Rattle.x509_lint_web.specs.declared.seen.Part.{Part}
 use Rattle.x509_lint_web.specs.declared.seen.Part.TheVariants.{Version, Signature, KeyAlgorithm, KeyParameters, Key, Validity, Subject, Name, Extension, Extensions}
-use Rattle.x509_lint_web.specs.declared.values.WebValues.{WebValues}
+use Rattle.x509_lint_web.specs.declared.seen.SeenKind.{SeenKind}
+use Rattle.x509_lint_web.specs.declared.seen.SeenKind.TheVariants as kinds
 use Rattle.x509_name.specs.NameText.{name_text}
 
 -- ---- of which part a rule speaks
@@ -169,32 +168,69 @@ part_of (rules.Responder rule) = responder_part rule
 part_of (rules.Precertificate rule) = precertificate_part rule
 part_of (rules.Constrained rule) = constrained_part rule
 
--- ---- what is seen of a part
+-- the fault of the names of the SAN of which the part is
+abbrev pub fault_of : Part → Option NameFault
+fault_of (Name fault) = Some fault
+fault_of other = None
 
--- a dNSName, an rfc822Name or a URI as it is, and an iPAddress in hex
-abbrev pub name_seen : GeneralName → List ℕ
-name_seen (DnsName text) = text
-name_seen (Rfc822Name text) = text
-name_seen (UniformResourceIdentifier text) = text
-name_seen (IpAddress octets) = shortened octets
-name_seen other = []
+-- ---- what is seen, and what that is
 
--- the first of the names that has the fault
-abbrev pub first_seen : NameFault → List GeneralName → List ℕ
-first_seen fault [] = []
-first_seen fault (n ∷ names) = if has_fault fault n then name_seen n else first_seen fault names
+-- of which kind a name is, as GeneralName has it (RFC 5280 4.2.1.6)
+abbrev pub kind_of_name : GeneralName → SeenKind
+kind_of_name (OtherName other) = kinds.OtherName
+kind_of_name (Rfc822Name text) = kinds.Rfc822Name
+kind_of_name (DnsName text) = kinds.DnsName
+kind_of_name (DirectoryName rdns) = kinds.DirectoryName
+kind_of_name (EdiPartyName party) = kinds.EdiPartyName
+kind_of_name (UniformResourceIdentifier text) = kinds.Uri
+kind_of_name (IpAddress octets) = kinds.IpAddress
+kind_of_name (RegisteredId oid) = kinds.RegisteredId
 
-abbrev pub faulty_seen : NameFault → Option SubjectAltName → List ℕ
-faulty_seen fault None = []
-faulty_seen fault (Some s) = first_seen fault s.0
+abbrev pub kind_of_part : Part → SeenKind
+kind_of_part Version = kinds.Nothing
+kind_of_part Signature = kinds.Oid
+kind_of_part KeyAlgorithm = kinds.Oid
+kind_of_part KeyParameters = kinds.Octets
+kind_of_part Key = kinds.Octets
+kind_of_part Validity = kinds.Dates
+kind_of_part Subject = kinds.Name
+kind_of_part (Name fault) = kinds.Nothing
+kind_of_part (Extension oid) = kinds.Octets
+kind_of_part Extensions = kinds.Nothing
 
-abbrev pub parameters_seen : Option Any → List ℕ
-parameters_seen None = []
-parameters_seen (Some a) = shortened a.value
+abbrev pub kind_word : SeenKind → List ℕ
+kind_word kinds.Nothing = codes "nothing"
+kind_word kinds.Octets = codes "octets"
+kind_word kinds.Oid = codes "OID"
+kind_word kinds.Dates = codes "dates"
+kind_word kinds.Name = codes "name"
+kind_word kinds.OtherName = codes "otherName"
+kind_word kinds.Rfc822Name = codes "rfc822Name"
+kind_word kinds.DnsName = codes "dNSName"
+kind_word kinds.DirectoryName = codes "directoryName"
+kind_word kinds.EdiPartyName = codes "ediPartyName"
+kind_word kinds.Uri = codes "uniformResourceIdentifier"
+kind_word kinds.IpAddress = codes "iPAddress"
+kind_word kinds.RegisteredId = codes "registeredID"
 
 -- as 1.2.840.10045.2.1
 abbrev pub oid_seen : List ℕ → List ℕ
 oid_seen oid = dotted (arcs_of oid)
+
+-- a dNSName, an rfc822Name or a URI as it is, an iPAddress in hex, a directoryName by its text (RFC 4514), a registeredID, and the type of an otherName
+abbrev pub name_seen : GeneralName → List ℕ
+name_seen (OtherName other) = oid_seen other.type_id
+name_seen (Rfc822Name text) = text
+name_seen (DnsName text) = text
+name_seen (DirectoryName rdns) = name_text rdns
+name_seen (EdiPartyName party) = []
+name_seen (UniformResourceIdentifier text) = text
+name_seen (IpAddress octets) = shortened octets
+name_seen (RegisteredId oid) = oid_seen oid
+
+abbrev pub parameters_seen : Option Any → List ℕ
+parameters_seen None = []
+parameters_seen (Some a) = shortened a.value
 
 -- notBefore and notAfter, as 2026-03-15T00:00:00Z/2026-05-01T00:00:00Z (ISO 8601 4.4.4.1)
 abbrev pub validity_seen : Certificate → List ℕ
@@ -204,18 +240,15 @@ validity_seen c = date_time_text (date_time_of c.tbs_certificate.validity.not_be
 abbrev pub subject_seen : Certificate → List ℕ
 subject_seen c = name_text c.tbs_certificate.subject
 
-abbrev pub part_seen : Certificate → WebValues → Part → List ℕ
-part_seen c v Version = []
-part_seen c v Signature = oid_seen c.signature_algorithm.oid
-part_seen c v KeyAlgorithm = oid_seen (key_of c).algorithm.oid
-part_seen c v KeyParameters = parameters_seen (key_of c).algorithm.parameters
-part_seen c v Key = shortened (key_of c).subject_public_key.octets
-part_seen c v Validity = validity_seen c
-part_seen c v Subject = subject_seen c
-part_seen c v (Name fault) = faulty_seen fault v.subject_alt_name
-part_seen c v (Extension oid) = value_seen oid (extensions_of c)
-part_seen c v Extensions = []
-
--- what is seen where the certificate, of which these are the values, breaks the rule
-abbrev pub web_seen : Certificate → WebValues → WebRule → List ℕ
-web_seen c v rule = part_seen c v (part_of rule)
+-- of another part than names of the SAN
+abbrev pub part_seen : Certificate → Part → List ℕ
+part_seen c Version = []
+part_seen c Signature = oid_seen c.signature_algorithm.oid
+part_seen c KeyAlgorithm = oid_seen (key_of c).algorithm.oid
+part_seen c KeyParameters = parameters_seen (key_of c).algorithm.parameters
+part_seen c Key = shortened (key_of c).subject_public_key.octets
+part_seen c Validity = validity_seen c
+part_seen c Subject = subject_seen c
+part_seen c (Name fault) = []
+part_seen c (Extension oid) = value_seen oid (extensions_of c)
+part_seen c Extensions = []

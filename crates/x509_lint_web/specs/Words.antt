@@ -1,6 +1,5 @@
 -- Words that several rules use, what rules look at beside the certificate itself, and of whom they speak.
-use Rattle.std.specs.Prelude.{◌≡◌, ◌↔◌, ◌&&◌, ◌||◌, ◌+◌, ◌*◌, ℕ, Bool, false, not, nat_le, List, [], ◌∷◌, length, take, map, filter, Option, Some, bytes_eq, codes}
-use Rattle.std.specs.Char.{to_ascii_lowercase}
+use Rattle.std.specs.Prelude.{◌≡◌, ◌↔◌, ◌&&◌, ◌||◌, ◌+◌, ◌*◌, ℕ, Bool, false, not, nat_le, List, [], ◌∷◌, length, take, filter, Option, Some, bytes_eq, codes}
 use Rattle.std.specs.List.{list_any}
 use Rattle.x509_base.specs.declared.subject_public_key_info.SubjectPublicKeyInfo.{SubjectPublicKeyInfo}
 use Rattle.x509_der.specs.Form.{Form, Spells, universal}
@@ -23,7 +22,7 @@ use Rattle.x509_ext.specs.declared.pkix.name.general_name.GeneralName.{GeneralNa
 use Rattle.x509_ext.specs.declared.pkix.name.general_name.GeneralName.TheVariants.{UniformResourceIdentifier}
 use Rattle.x509_lint.specs.BasicConstraints.{any_basic_constraints}
 use Rattle.x509_lint.specs.Key.{is_self_issued}
-use Rattle.x509_lint.specs.Words.{Certificate, IsValue, extensions_of, has, passes}
+use Rattle.x509_lint.specs.Words.{Certificate, IsValue, extensions_of, has, is_same, passes}
 use Rattle.x509_lint_web.specs.declared.values.WebValues.{WebValues}
 use Rattle.x509_name.specs.declared.attr.type_and_value.AttributeTypeAndValue.{AttributeTypeAndValue}
 use Rattle.x509_prim.specs.Integer.{unsigned_integer}
@@ -69,10 +68,6 @@ is_of_type oid a = bytes_eq a.oid oid
 abbrev pub count_of : List ℕ → List (List AttributeTypeAndValue) → ℕ
 count_of oid [] = 0
 count_of oid (rdn ∷ rdns) = length (filter (is_of_type oid) rdn) + count_of oid rdns
-
--- the same text without regard to ASCII case
-abbrev pub is_same : List ℕ → List ℕ → Bool
-is_same text other = bytes_eq (map to_ascii_lowercase text) (map to_ascii_lowercase other)
 
 -- an HTTP URI: it begins with `http://` (RFC 9110 4.2.1)
 abbrev pub is_http : List ℕ → Bool

@@ -7,11 +7,12 @@ ghost use Rattle.std.specs.Prelude.{◌≡◌, IfOk, bytes_eq, length, string_by
 ghost use Rattle.x509_lint.specs.Words.{passes};
 ghost use Rattle.x509_lint_web.specs.CommonName as grammar;
 
-use crate::hosts::{has_octet, has_xn_label, is_beyond_ascii, is_same};
+use crate::hosts::{has_octet, has_xn_label, is_beyond_ascii};
 use std::alloc::{AllocError, Global};
 use std::net::{Ipv4Addr, Ipv6Addr};
 use x509_ext::pkix::SubjectAltName;
 use x509_ext::pkix::name::GeneralName;
+use x509_lint::labels::is_same;
 use x509_name::attr::AttributeTypeAndValue;
 use x509_name::attr::attribute_types::COMMON_NAME;
 use x509_name::name::{Name, RdnSequence, RelativeDistinguishedName};

@@ -3,7 +3,7 @@
 ghost use Rattle.std.specs.Prelude.{◌≡◌};
 ghost use Rattle.x509_lint_web.specs.Country as country;
 
-use crate::hosts::is_same;
+use x509_lint::labels::is_same;
 
 /// The alpha-2 codes of ISO 3166-1, as they were on 2025-01-01, and XX, each but the last with a space behind it.
 const COUNTRY_CODES: &[u8] =

@@ -5,14 +5,8 @@ ghost use Rattle.x509_lint_web.specs.Host as host;
 ghost use Rattle.x509_lint_web.specs.Words as words;
 
 use x509_host::behind_wildcard;
+use x509_lint::labels::{is_same, is_xn_label};
 use x509_lint::passes;
-
-/// Whether the texts are the same without regard to ASCII case.
-pub(crate) fn is_same(text: &[u8], other: &[u8]) -> bool
-    ensures { result ≡ words.is_same text.now other.now }
-{
-    text.eq_ignore_ascii_case(other)
-}
 
 /// Whether the text is an HTTP URI.
 pub(crate) fn is_http(text: &[u8]) -> bool
@@ -51,12 +45,6 @@ pub(crate) fn has_reserved_label(text: &[u8]) -> bool
     ensures { result ≡ host.has_reserved_label text.now }
 {
     text.split(|octet| *octet == b'.').any(is_reserved_label)
-}
-
-pub(crate) fn is_xn_label(label: &[u8]) -> bool
-    ensures { result ≡ host.is_xn_label label.now }
-{
-    label.len() >= 4 && is_same(&label[..4], b"xn--")
 }
 
 pub(crate) fn has_xn_label(text: &[u8]) -> bool

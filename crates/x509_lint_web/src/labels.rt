@@ -6,11 +6,11 @@ ghost use Rattle.idna.specs.Punycode.{decode};
 ghost use Rattle.x509_lint.specs.Words.{passes};
 ghost use Rattle.x509_lint_web.specs.Label as grammar;
 
-use crate::hosts::is_xn_label;
 use idna::{Errors, punycode};
 use std::alloc::{AllocError, Global};
 use x509_ext::pkix::SubjectAltName;
 use x509_ext::pkix::name::GeneralName;
+use x509_lint::labels::is_xn_label;
 
 /// The most octets behind `xn--` in a label, which has 63 in all (RFC 1035 2.3.4).
 const MAX_OCTETS: usize = 59;

@@ -1,18 +1,20 @@
 //! What is seen where a certificate breaks a rule.
 
-ghost use Rattle.std.specs.Prelude.{◌≡◌, IfOk, string_bytes};
+ghost use Rattle.std.specs.Prelude.{◌≡◌, IfOk, Some, string_bytes};
 ghost use Rattle.x509_lint_web.specs.Seen as grammar;
+ghost use Rattle.x509_lint_web.specs.Seen.{kind_word};
+ghost use Rattle.x509_name.specs.NameText.{name_text};
 
-use crate::names::{NameFault, is_faulty};
-use crate::values::WebValues;
+use crate::names::NameFault;
 use std::alloc::{AllocError, Global};
+use std::fmt;
 use x509_base::Raw;
 use x509_cert::certificate::CertificateInner;
 use x509_der::{Any, ObjectIdentifier};
-use x509_ext::pkix::SubjectAltName;
 use x509_ext::pkix::name::GeneralName;
 use x509_lint::extensions::extensions_of;
 use x509_lint::seen::{shortened, value_of};
+use x509_name::name::Name;
 
 /// What of a certificate a rule speaks of.
 #[derive(Clone, Copy)]
@@ -38,7 +40,7 @@ pub(crate) enum Part {
     /// The subject.
     Subject,
 
-    /// The first name of the SAN that has the fault.
+    /// Each name of the SAN that has the fault.
     Name(NameFault),
 
     /// The extension of this OID.
@@ -46,6 +48,110 @@ pub(crate) enum Part {
 
     /// The list of extensions, of which nothing more is told.
     Extensions,
+}
+
+/// What that is which is seen. It is printed as a line of JSON has it, as `octets` or `dNSName`.
+#[derive(Clone, Copy)]
+pub(crate) enum SeenKind {
+    /// Nothing is told.
+    Nothing,
+
+    /// Octets in hex.
+    Octets,
+
+    /// An OID, with dots.
+    Oid,
+
+    /// The dates of a validity.
+    Dates,
+
+    /// A distinguished name (RFC 4514).
+    Name,
+
+    /// The OID of an otherName.
+    OtherName,
+
+    /// An rfc822Name.
+    Rfc822Name,
+
+    /// A dNSName.
+    DnsName,
+
+    /// A directoryName (RFC 4514).
+    DirectoryName,
+
+    /// An ediPartyName, of which nothing more is told.
+    EdiPartyName,
+
+    /// A URI.
+    Uri,
+
+    /// An iPAddress in hex.
+    IpAddress,
+
+    /// A registeredID, with dots.
+    RegisteredId,
+}
+
+impl fmt::Display for SeenKind {
+    ghost output = { λ kind. Some (kind_word kind) };
+
+    fn fmt<W: fmt::Write>(&self, f: &mut fmt::Formatter<W>) -> fmt::Result {
+        f.write_str(match self {
+            SeenKind::Nothing => "nothing",
+            SeenKind::Octets => "octets",
+            SeenKind::Oid => "OID",
+            SeenKind::Dates => "dates",
+            SeenKind::Name => "name",
+            SeenKind::OtherName => "otherName",
+            SeenKind::Rfc822Name => "rfc822Name",
+            SeenKind::DnsName => "dNSName",
+            SeenKind::DirectoryName => "directoryName",
+            SeenKind::EdiPartyName => "ediPartyName",
+            SeenKind::Uri => "uniformResourceIdentifier",
+            SeenKind::IpAddress => "iPAddress",
+            SeenKind::RegisteredId => "registeredID",
+        })
+    }
+}
+
+/// The fault of the names of the SAN of which the part is.
+pub(crate) fn fault_of(part: Part) -> Option<NameFault>
+    ensures { result ≡ grammar.fault_of part }
+{
+    match part {
+        Part::Name(fault) => Some(fault),
+        _ => None,
+    }
+}
+
+/// Of which kind a name is.
+pub(crate) fn kind_of_name(name: &GeneralName) -> SeenKind
+    ensures { result ≡ grammar.kind_of_name name.now }
+{
+    match name {
+        GeneralName::OtherName(_) => SeenKind::OtherName,
+        GeneralName::Rfc822Name(_) => SeenKind::Rfc822Name,
+        GeneralName::DnsName(_) => SeenKind::DnsName,
+        GeneralName::DirectoryName(_) => SeenKind::DirectoryName,
+        GeneralName::EdiPartyName(_) => SeenKind::EdiPartyName,
+        GeneralName::UniformResourceIdentifier(_) => SeenKind::Uri,
+        GeneralName::IpAddress(_) => SeenKind::IpAddress,
+        GeneralName::RegisteredId(_) => SeenKind::RegisteredId,
+    }
+}
+
+/// What that is which is seen of a part.
+pub(crate) fn kind_of_part(part: Part) -> SeenKind
+    ensures { result ≡ grammar.kind_of_part part }
+{
+    match part {
+        Part::Version | Part::Name(_) | Part::Extensions => SeenKind::Nothing,
+        Part::Signature | Part::KeyAlgorithm => SeenKind::Oid,
+        Part::KeyParameters | Part::Key | Part::Extension(_) => SeenKind::Octets,
+        Part::Validity => SeenKind::Dates,
+        Part::Subject => SeenKind::Name,
+    }
 }
 
 fn text_of(alloc: Global, text: &str) -> Result<String, AllocError>
@@ -56,45 +162,31 @@ fn text_of(alloc: Global, text: &str) -> Result<String, AllocError>
     Ok(copy)
 }
 
-/// A dNSName, an rfc822Name or a URI as it is, and an iPAddress in hex; else nothing.
-fn name_seen(alloc: Global, name: &GeneralName) -> Result<String, AllocError>
+fn oid_seen(alloc: Global, oid: ObjectIdentifier) -> Result<String, AllocError>
+    ensures { IfOk result (λ text. string_bytes text ≡ grammar.oid_seen oid) }
+{
+    format!(in alloc; "{oid}")
+}
+
+fn directory_seen(alloc: Global, name: &Name) -> Result<String, AllocError>
+    ensures { IfOk result (λ text. string_bytes text ≡ name_text name.now) }
+{
+    format!(in alloc; "{name}")
+}
+
+/// A dNSName, an rfc822Name or a URI as it is, an iPAddress in hex, a directoryName by its text, a registeredID, and the type of an otherName.
+pub(crate) fn name_seen(alloc: Global, name: &GeneralName) -> Result<String, AllocError>
     ensures { IfOk result (λ text. string_bytes text ≡ grammar.name_seen name.now) }
 {
     match name {
-        GeneralName::DnsName(text) => text_of(alloc, text.as_str()),
+        GeneralName::OtherName(other) => oid_seen(alloc, other.type_id),
         GeneralName::Rfc822Name(text) => text_of(alloc, text.as_str()),
+        GeneralName::DnsName(text) => text_of(alloc, text.as_str()),
+        GeneralName::DirectoryName(name) => directory_seen(alloc, name),
+        GeneralName::EdiPartyName(_) => Ok(String::new(alloc)),
         GeneralName::UniformResourceIdentifier(text) => text_of(alloc, text.as_str()),
         GeneralName::IpAddress(octets) => shortened(alloc, octets.as_bytes()),
-        _ => Ok(String::new(alloc)),
-    }
-}
-
-fn first_seen(
-    alloc: Global,
-    fault: NameFault,
-    mut names: &[GeneralName],
-) -> Result<String, AllocError>
-    ensures { IfOk result (λ text. string_bytes text ≡ grammar.first_seen fault names.entry.now) }
-{
-    while let [first, rest @ ..] = names {
-        if is_faulty(fault, first) {
-            return name_seen(alloc, first);
-        }
-        names = rest;
-    }
-    Ok(String::new(alloc))
-}
-
-fn faulty_seen(
-    alloc: Global,
-    fault: NameFault,
-    names: &Option<SubjectAltName>,
-) -> Result<String, AllocError>
-    ensures { IfOk result (λ text. string_bytes text ≡ grammar.faulty_seen fault names.now) }
-{
-    match names {
-        Some(names) => first_seen(alloc, fault, names.0.as_slice()),
-        None => Ok(String::new(alloc)),
+        GeneralName::RegisteredId(oid) => oid_seen(alloc, *oid),
     }
 }
 
@@ -107,12 +199,6 @@ fn parameters_seen(alloc: Global, parameters: &Option<Any>) -> Result<String, Al
     }
 }
 
-fn oid_seen(alloc: Global, oid: ObjectIdentifier) -> Result<String, AllocError>
-    ensures { IfOk result (λ text. string_bytes text ≡ grammar.oid_seen oid) }
-{
-    format!(in alloc; "{oid}")
-}
-
 fn validity_seen(alloc: Global, certificate: &CertificateInner<Raw>) -> Result<String, AllocError>
     ensures { IfOk result (λ text. string_bytes text ≡ grammar.validity_seen certificate.now) }
 {
@@ -122,32 +208,23 @@ fn validity_seen(alloc: Global, certificate: &CertificateInner<Raw>) -> Result<S
     format!(in alloc; "{begin}/{end}")
 }
 
-fn subject_seen(alloc: Global, certificate: &CertificateInner<Raw>) -> Result<String, AllocError>
-    ensures { IfOk result (λ text. string_bytes text ≡ grammar.subject_seen certificate.now) }
-{
-    let subject = certificate.tbs_certificate().subject();
-    format!(in alloc; "{subject}")
-}
-
-/// What is seen of the part of the certificate, of which these are the values.
+/// What is seen of the part of the certificate, where that isn't names of the SAN.
 pub(crate) fn part_seen(
     alloc: Global,
     certificate: &CertificateInner<Raw>,
-    values: &WebValues,
     part: Part,
 ) -> Result<String, AllocError>
-    ensures { IfOk result (λ text. string_bytes text ≡ grammar.part_seen certificate.now values.now part) }
+    ensures { IfOk result (λ text. string_bytes text ≡ grammar.part_seen certificate.now part) }
 {
     let key = certificate.tbs_certificate().subject_public_key_info();
     match part {
-        Part::Version | Part::Extensions => Ok(String::new(alloc)),
+        Part::Version | Part::Name(_) | Part::Extensions => Ok(String::new(alloc)),
         Part::Signature => oid_seen(alloc, certificate.signature_algorithm().oid),
         Part::KeyAlgorithm => oid_seen(alloc, key.algorithm.oid),
         Part::KeyParameters => parameters_seen(alloc, &key.algorithm.parameters),
         Part::Key => shortened(alloc, key.subject_public_key.raw_bytes()),
         Part::Validity => validity_seen(alloc, certificate),
-        Part::Subject => subject_seen(alloc, certificate),
-        Part::Name(fault) => faulty_seen(alloc, fault, &values.subject_alt_name),
+        Part::Subject => directory_seen(alloc, certificate.tbs_certificate().subject()),
         Part::Extension(oid) => value_of(alloc, oid, extensions_of(certificate)),
     }
 }

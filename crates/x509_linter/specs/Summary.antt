@@ -1,7 +1,8 @@
--- A summary: each line of a text once, behind how often it stands there.
+-- A summary: each line of a text without what is seen, once, behind how often it stands there.
 use Rattle.std.specs.Prelude.{ℕ, ◌+◌, ◌==◌, Bool, List, [], ◌∷◌, ◌++◌, bytes_eq, codes, if◌then◌else◌}
 use Rattle.std.specs.Fmt.{decimal}
 use Rattle.std.specs.List.{flat_map, list_any, slice_split}
+use Rattle.x509_linter.specs.Lines.{before}
 
 abbrev pub is_among : List ℕ → List (List ℕ) → Bool
 is_among line others = list_any (λ other. bytes_eq other line) others
@@ -11,9 +12,13 @@ count_of line [] = 0
 count_of line (other ∷ others) = if bytes_eq other line then 1 + count_of line others else count_of line others
 
 -- a line, unless it is empty
+abbrev pub unless_empty : List ℕ → List (List ℕ)
+unless_empty [] = []
+unless_empty (octet ∷ octets) = (octet ∷ octets) ∷ []
+
+-- without what is seen, which stands behind a tab
 abbrev pub whole_line : List ℕ → List (List ℕ)
-whole_line [] = []
-whole_line (octet ∷ octets) = (octet ∷ octets) ∷ []
+whole_line line = unless_empty (before 9 line)
 
 abbrev pub whole_lines : List ℕ → List (List ℕ)
 whole_lines text = flat_map whole_line (slice_split (λ octet. octet == 10) text)

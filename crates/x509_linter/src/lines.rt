@@ -23,7 +23,7 @@ fn place_of(mark: u8, text: &[u8]) -> Option<usize>
 }
 
 /// What stands before the first such mark, or the whole.
-fn before(mark: u8, text: &[u8]) -> &[u8]
+pub(crate) fn before(mark: u8, text: &[u8]) -> &[u8]
     ensures { result.now ≡ grammar.before mark text.now }
 {
     match place_of(mark, text) {

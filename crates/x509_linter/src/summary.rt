@@ -1,9 +1,10 @@
-//! A summary: each line of a text once, behind how often it stands there.
+//! A summary: each line of a text without what is seen, once, behind how often it stands there.
 
 ghost use Rattle.std.specs.List.{list_any};
 ghost use Rattle.std.specs.Prelude.{◌≡◌, ◌++◌, IfOk, OnOk, bytes_eq, map};
 ghost use Rattle.x509_linter.specs.Summary as grammar;
 
+use crate::lines::before;
 use std::alloc::{AllocError, Global};
 
 /// Whether two lines are the same.
@@ -43,8 +44,8 @@ fn count_of(line: &[u8], lines: &[&[u8]]) -> usize
 }
 
 /// Adds a line, unless it is empty.
-fn push_line<'a>(line: &'a [u8], lines: &mut Vec<&'a [u8]>) -> Result<(), AllocError>
-    ensures { OnOk result (map (λ line. line.now) lines.new.items ≡ map (λ line. line.now) lines.old.items ++ grammar.whole_line line.now) }
+fn push_unless_empty<'a>(line: &'a [u8], lines: &mut Vec<&'a [u8]>) -> Result<(), AllocError>
+    ensures { OnOk result (map (λ line. line.now) lines.new.items ≡ map (λ line. line.now) lines.old.items ++ grammar.unless_empty line.now) }
 {
     if !line.is_empty() {
         lines.push(line)?;
@@ -52,7 +53,14 @@ fn push_line<'a>(line: &'a [u8], lines: &mut Vec<&'a [u8]>) -> Result<(), AllocE
     Ok(())
 }
 
-/// The lines of a text that aren't empty.
+/// Adds a line without what is seen, which stands behind a tab, unless it is empty.
+fn push_line<'a>(line: &'a [u8], lines: &mut Vec<&'a [u8]>) -> Result<(), AllocError>
+    ensures { OnOk result (map (λ line. line.now) lines.new.items ≡ map (λ line. line.now) lines.old.items ++ grammar.whole_line line.now) }
+{
+    push_unless_empty(before(b'\t', line), lines)
+}
+
+/// The lines of a text without what is seen, those that aren't empty.
 fn whole_lines(alloc: Global, text: &[u8]) -> Result<Vec<&[u8]>, AllocError>
     ensures { IfOk result (λ lines. map (λ line. line.now) lines.items ≡ grammar.whole_lines text.now) }
 {

@@ -9,6 +9,7 @@ ghost use Rattle.x509_der.specs.declared.error.ErrorKind.TheVariants.{Memory};
 ghost use Rattle.x509_lint.specs.Request as grammar;
 
 use crate::extensions::payload;
+use crate::labels::has_unnormalized_subject;
 use crate::read::{ExtensionsRead, extensions_read};
 use crate::repeats::{are_oids_distinct, is_distinct_name};
 use std::alloc::Global;
@@ -42,6 +43,9 @@ pub(crate) struct RequestValues {
     /// The SAN that is asked for.
     pub(crate) subject_alt_name: Option<SubjectAltName>,
 
+    /// A dNSName of it has a label of IDNA whose text isn't in Normalization Form C.
+    pub(crate) has_unnormalized_name: bool,
+
     /// No RDN of the subject has two attributes of one type.
     pub(crate) is_subject_distinct: bool,
 }
@@ -56,6 +60,7 @@ impl Drop for RequestValues {
             is_repeated: _,
             read: _,
             subject_alt_name: _,
+            has_unnormalized_name: _,
             is_subject_distinct: _,
         } = self;
     }
@@ -173,6 +178,7 @@ pub(crate) fn request_values(alloc: Global, request: &CertReq) -> Result<Request
     let is_repeated = has_repeated_extension(alloc, requested_extensions(&requested))?;
     let read = extensions_read(alloc, requested_extensions(&requested))?;
     let subject_alt_name = payload(alloc, requested_extensions(&requested))?;
+    let has_unnormalized_name = has_unnormalized_subject(alloc, &subject_alt_name)?;
     Ok(RequestValues {
         are_types_distinct,
         is_password_malformed,
@@ -181,6 +187,7 @@ pub(crate) fn request_values(alloc: Global, request: &CertReq) -> Result<Request
         is_repeated,
         read,
         subject_alt_name,
+        has_unnormalized_name,
         is_subject_distinct,
     })
 }

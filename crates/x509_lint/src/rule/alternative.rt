@@ -40,6 +40,9 @@ pub enum AlternativeRule {
     /// A dNSName of the SAN isn't empty, and isn't a DNS name (RFC 5280 4.2.1.6, error).
     SubjectAltNameDnsNameInvalid,
 
+    /// A dNSName of the SAN has a label of IDNA (`xn--`) that Punycode decodes to a text that isn't in Unicode's Normalization Form C (RFC 5891 5.4, error).
+    SubjectAltNameDnsNameUnnormalized,
+
     /// An iPAddress of the SAN has neither 4 nor 16 octets (RFC 5280 4.2.1.6, error).
     SubjectAltNameAddressLength,
 
@@ -76,6 +79,9 @@ pub enum AlternativeRule {
     /// A dNSName of the IAN isn't empty, and isn't a DNS name (RFC 5280 4.2.1.7, error).
     IssuerAltNameDnsNameInvalid,
 
+    /// A dNSName of the IAN has a label of IDNA (`xn--`) that Punycode decodes to a text that isn't in Unicode's Normalization Form C (RFC 5891 5.4, error).
+    IssuerAltNameDnsNameUnnormalized,
+
     /// An iPAddress of the IAN has neither 4 nor 16 octets (RFC 5280 4.2.1.7, error).
     IssuerAltNameAddressLength,
 
@@ -105,11 +111,12 @@ pub enum AlternativeRule {
 }
 
 /// The rules in their order, with how each is told.
-pub(crate) static ALTERNATIVE_RULES: [Told<AlternativeRule>; 25] = rules! { AlternativeRule;
+pub(crate) static ALTERNATIVE_RULES: [Told<AlternativeRule>; 27] = rules! { AlternativeRule;
     SubjectEmailNotInAltName => must("subject_email_not_in_alt_name", "4.1.2.6", "tbsCertificate.extensions.subjectAltName"),
     SubjectAltNameEmpty => must("subject_alt_name_empty", "4.2.1.6", "tbsCertificate.extensions.subjectAltName"),
     SubjectAltNameEmptyName => must("subject_alt_name_empty_name", "4.2.1.6", "tbsCertificate.extensions.subjectAltName"),
     SubjectAltNameDnsNameInvalid => must("subject_alt_name_dns_name_invalid", "4.2.1.6", "tbsCertificate.extensions.subjectAltName"),
+    SubjectAltNameDnsNameUnnormalized => must_of("RFC 5891", "subject_alt_name_dns_name_not_normalized", "5.4", "tbsCertificate.extensions.subjectAltName"),
     SubjectAltNameAddressLength => must("subject_alt_name_address_length", "4.2.1.6", "tbsCertificate.extensions.subjectAltName"),
     SubjectAltNameMailboxInvalid => must("subject_alt_name_mailbox_invalid", "4.2.1.6", "tbsCertificate.extensions.subjectAltName"),
     SubjectAltNameUriRelative => must("subject_alt_name_uri_relative", "4.2.1.6", "tbsCertificate.extensions.subjectAltName"),
@@ -122,6 +129,7 @@ pub(crate) static ALTERNATIVE_RULES: [Told<AlternativeRule>; 25] = rules! { Alte
     IssuerAltNameEmpty => must("issuer_alt_name_empty", "4.2.1.7", "tbsCertificate.extensions.issuerAltName"),
     IssuerAltNameEmptyName => must("issuer_alt_name_empty_name", "4.2.1.7", "tbsCertificate.extensions.issuerAltName"),
     IssuerAltNameDnsNameInvalid => must("issuer_alt_name_dns_name_invalid", "4.2.1.7", "tbsCertificate.extensions.issuerAltName"),
+    IssuerAltNameDnsNameUnnormalized => must_of("RFC 5891", "issuer_alt_name_dns_name_not_normalized", "5.4", "tbsCertificate.extensions.issuerAltName"),
     IssuerAltNameAddressLength => must("issuer_alt_name_address_length", "4.2.1.7", "tbsCertificate.extensions.issuerAltName"),
     IssuerAltNameMailboxInvalid => must("issuer_alt_name_mailbox_invalid", "4.2.1.7", "tbsCertificate.extensions.issuerAltName"),
     IssuerAltNameUriRelative => must("issuer_alt_name_uri_relative", "4.2.1.7", "tbsCertificate.extensions.issuerAltName"),
@@ -181,6 +189,7 @@ impl Group<CertificateInner<Raw>, AlternativeValues> for AlternativeRule {
                 passes!(&values.subject_alt_name, names => names.0.as_slice().is_empty()),
             AlternativeRule::SubjectAltNameEmptyName => has_subject_name(&EmptyName, values),
             AlternativeRule::SubjectAltNameDnsNameInvalid => has_subject_name(&NoDnsName, values),
+            AlternativeRule::SubjectAltNameDnsNameUnnormalized => values.has_unnormalized_subject,
             AlternativeRule::SubjectAltNameAddressLength => has_subject_name(&NoAddress, values),
             AlternativeRule::SubjectAltNameMailboxInvalid => has_subject_name(&NoMailbox, values),
             AlternativeRule::SubjectAltNameUriRelative => has_subject_name(&Relative, values),
@@ -204,6 +213,7 @@ impl Group<CertificateInner<Raw>, AlternativeValues> for AlternativeRule {
                 passes!(&values.issuer_alt_name, names => names.0.as_slice().is_empty()),
             AlternativeRule::IssuerAltNameEmptyName => has_issuer_name(&EmptyName, values),
             AlternativeRule::IssuerAltNameDnsNameInvalid => has_issuer_name(&NoDnsName, values),
+            AlternativeRule::IssuerAltNameDnsNameUnnormalized => values.has_unnormalized_issuer,
             AlternativeRule::IssuerAltNameAddressLength => has_issuer_name(&NoAddress, values),
             AlternativeRule::IssuerAltNameMailboxInvalid => has_issuer_name(&NoMailbox, values),
             AlternativeRule::IssuerAltNameUriRelative => has_issuer_name(&Relative, values),

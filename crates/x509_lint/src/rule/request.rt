@@ -257,6 +257,9 @@ pub enum RequestNameRule {
     /// A dNSName of the SAN that is asked for isn't empty, and isn't a DNS name (RFC 5280 4.2.1.6, error).
     SubjectAltNameDnsNameInvalid,
 
+    /// A dNSName of the SAN that is asked for has a label of IDNA (`xn--`) that Punycode decodes to a text that isn't in Unicode's Normalization Form C (RFC 5891 5.4, error).
+    SubjectAltNameDnsNameUnnormalized,
+
     /// An iPAddress of the SAN that is asked for isn't empty, and has neither 4 nor 16 octets (RFC 5280 4.2.1.6, error).
     SubjectAltNameAddressLength,
 
@@ -286,10 +289,11 @@ pub enum RequestNameRule {
 }
 
 /// The rules in their order, with how each is told.
-pub(crate) static REQUEST_NAME_RULES: [Told<RequestNameRule>; 12] = rules! { RequestNameRule;
+pub(crate) static REQUEST_NAME_RULES: [Told<RequestNameRule>; 13] = rules! { RequestNameRule;
     SubjectAltNameEmpty => must("subject_alt_name_empty", "4.2.1.6", "certificationRequestInfo.attributes.extensionRequest.subjectAltName"),
     SubjectAltNameEmptyName => must("subject_alt_name_empty_name", "4.2.1.6", "certificationRequestInfo.attributes.extensionRequest.subjectAltName"),
     SubjectAltNameDnsNameInvalid => must("subject_alt_name_dns_name_invalid", "4.2.1.6", "certificationRequestInfo.attributes.extensionRequest.subjectAltName"),
+    SubjectAltNameDnsNameUnnormalized => must_of("RFC 5891", "subject_alt_name_dns_name_not_normalized", "5.4", "certificationRequestInfo.attributes.extensionRequest.subjectAltName"),
     SubjectAltNameAddressLength => must("subject_alt_name_address_length", "4.2.1.6", "certificationRequestInfo.attributes.extensionRequest.subjectAltName"),
     SubjectAltNameMailboxInvalid => must("subject_alt_name_mailbox_invalid", "4.2.1.6", "certificationRequestInfo.attributes.extensionRequest.subjectAltName"),
     SubjectAltNameUriRelative => must("subject_alt_name_uri_relative", "4.2.1.6", "certificationRequestInfo.attributes.extensionRequest.subjectAltName"),
@@ -326,6 +330,7 @@ impl Group<CertReq, RequestValues> for RequestNameRule {
                 passes!(&values.subject_alt_name, names => any_of(&EmptyName, names.0.as_slice())),
             RequestNameRule::SubjectAltNameDnsNameInvalid =>
                 passes!(&values.subject_alt_name, names => any_of(&NoDnsName, names.0.as_slice())),
+            RequestNameRule::SubjectAltNameDnsNameUnnormalized => values.has_unnormalized_name,
             RequestNameRule::SubjectAltNameAddressLength =>
                 passes!(&values.subject_alt_name, names => any_of(&NoAddress, names.0.as_slice())),
             RequestNameRule::SubjectAltNameMailboxInvalid =>

@@ -1,7 +1,7 @@
 use Rattle.std.proofs.Common.{rules, ◌==◌}
 use Rattle.std.proofs.lemmas.Iterator.Search.{any_from_yields_List}
 use Rattle.std.proofs.lemmas.Iterator.Splits.{YieldsList-from_slice_split}
-use Rattle.x509_lint_web.specs.Words.{is_same}
+use Rattle.x509_lint.specs.Words.{is_same}
 use Rattle.x509_lint_web.proofs.countries.is_code_of.Goals as goal
 
 pub returns : goal.returns

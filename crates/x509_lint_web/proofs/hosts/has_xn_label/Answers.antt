@@ -1,7 +1,7 @@
 use Rattle.std.proofs.Common.{rules, ◌==◌}
 use Rattle.std.proofs.lemmas.Iterator.Search.{any_from_yields_List}
 use Rattle.std.proofs.lemmas.Iterator.Splits.{YieldsList-from_slice_split}
-use Rattle.x509_lint_web.specs.Host.{is_xn_label}
+use Rattle.x509_lint.specs.Label.{is_xn_label}
 use Rattle.x509_lint_web.proofs.hosts.has_xn_label.Goals as goal
 
 pub returns : goal.returns

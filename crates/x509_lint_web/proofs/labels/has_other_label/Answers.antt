@@ -3,7 +3,7 @@ use Rattle.std.proofs.lemmas.Iterator.Consumers.{YieldsList-turn, YieldsList-end
 use Rattle.std.proofs.lemmas.Iterator.Splits.{YieldsList-from_slice_split}
 use Rattle.std.specs.List.{slice_split}
 use Rattle.x509_lint_web.specs.Label.{is_other_label}
-use Rattle.x509_lint_web.proofs.LabelSteps.{at_label, at_one, past_all, past_label}
+use Rattle.x509_lint.proofs.LabelSteps.{at_label, at_one, past_all, past_label}
 use Rattle.x509_lint_web.proofs.labels.has_other_label.Goals as goal
 
 pub loop-label-preserved : goal.loop-label-preserved

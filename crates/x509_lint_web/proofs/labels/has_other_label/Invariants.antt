@@ -1,7 +1,7 @@
 use Rattle.std.proofs.Common.{drop, length, ◌==◌}
 use Rattle.std.specs.List.{slice_split}
 use Rattle.x509_lint_web.specs.Label.{is_other_label}
-use Rattle.x509_lint_web.proofs.LabelSteps.{LeavesTo}
+use Rattle.x509_lint.proofs.LabelSteps.{LeavesTo}
 use Rattle.x509_lint_web.proofs.labels.has_other_label.Given as goal
 
 -- none of the labels so far is one

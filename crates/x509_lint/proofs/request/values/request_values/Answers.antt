@@ -20,5 +20,6 @@ returns-clause-ok c =
       subst (λ es. IsTrue c.in_ok-is_repeated.is_repeated ↔ IsRepeated es) c.requested_extensions.ensures c.in_ok-is_repeated.ensures.ok,
       subst (λ es. AreExtensionsRead es c.in_ok-read.read) c.requested_extensions-2.ensures c.in_ok-read.ensures.ok,
       subst (λ es. IsValue subject_alt_name (id_ce 17) es c.in_ok-subject_alt_name.subject_alt_name) c.requested_extensions-3.ensures c.in_ok-subject_alt_name.ensures.ok,
+      c.in_ok-has_unnormalized_name.ensures,
       c.in_ok-is_subject_distinct.ensures.ok,
     )
