@@ -1985,7 +1985,7 @@ def choices(program):
         found = ended(program, words, both)
         yield f"the words {words}", found == (*wanted, ""), f"{found}, and not {wanted}"
     status, text, said = ended(program, ["--web", "--only", "common_name_present", "2026-03-15T00:00:00Z"], certificate())
-    wanted = (0, "certificate: warning common_name_present (TLS BR 7.1.2.7)\n", "")
+    wanted = (0, 'certificate: warning common_name_present (TLS BR 7.1.2.7)\tname "CN=A subject"\n', "")
     yield "--web and --only", (status, text, said) == wanted, (status, text, said)
     with tempfile.TemporaryDirectory() as folder:
         paths = [f'{folder}/a "quoted" name', f"{folder}/--only", f"{folder}/third"]
