@@ -112,9 +112,12 @@ def told_of(name, usual, rules, lints):
 def answer(sentence, rules, lints):
     """What is said behind a sentence: its rules, each name once, and why there are none or not all."""
     usual = "warning" if sentence["text"].startswith("SHOULD") else "error"
-    told = list(dict.fromkeys(told_of(name, usual, rules, lints) for name in sentence["rules"]))
+    told = {}
+    for name in sentence["rules"]:
+        severity = rules[name][0] if name in rules else usual
+        told.setdefault((name.rpartition(":")[2], severity), told_of(name, usual, rules, lints))
     why = [f"*{kind}*{': ' + more if more else ''}" for kind, more in sentence["reasons"]]
-    return "; ".join(filter(None, [", ".join(told), "; ".join(why)]))
+    return "; ".join(filter(None, [", ".join(told.values()), "; ".join(why)]))
 
 
 def is_listed(sentence):
