@@ -21,7 +21,8 @@ sys.path.insert(0, str(pathlib.Path(__file__).resolve().parents[1]))
 from common.header import TOP, calls, statuses
 
 EXPORTS = TOP / "crates" / "x509_c" / "src"
-SPECS = TOP / "crates" / "x509_c_calls" / "specs"
+CRATES = ["x509_c_calls", "x509_c_lint"]
+FROM = r"use Rattle\.x509_c_(?:calls|lint)\.specs\."
 # how a contract names what a call answers, and the header; Refused is any of the others
 STATUSES = {"Done": "X509_OK", "NoRoom": "X509_ROOM", "Absent": "X509_ABSENT", "Repeated": "X509_REPEATED", "Faulty": "X509_FAULT", "Limit": "X509_LIMIT"}
 # calls that take no memory, of which the contract says so by the refusals that it has, or by the type that is decoded
@@ -51,19 +52,19 @@ class Contracts:
     """Which statuses the relations of the contracts allow."""
 
     def __init__(self):
-        self.texts = {path.stem: path.read_text(encoding="utf-8") for path in SPECS.glob("*.antt")}
+        self.texts = {path.stem: path.read_text(encoding="utf-8") for crate in CRATES for path in (TOP / "crates" / crate / "specs").glob("*.antt") if path.stem != "Lib"}
         self.known = {}
 
     def module_of(self, name, text):
         """The module of the specs that a text has a name from."""
-        for module, names in re.findall(r"use Rattle\.x509_c_calls\.specs\.(\w+)\.\{([^}]*)\}", text):
+        for module, names in re.findall(FROM + r"(\w+)\.\{([^}]*)\}", text):
             if name in re.split(r",\s*", names):
                 return module
         return None
 
     def relations(self, text):
         """The relations over a status that a text names, each with its module."""
-        used = {name for names in re.findall(r"use Rattle\.x509_c_calls\.specs\.\w+\.\{([^}]*)\}", text) for name in re.split(r",\s*", names)}
+        used = {name for names in re.findall(FROM + r"\w+\.\{([^}]*)\}", text) for name in re.split(r",\s*", names)}
         return {(module, name) for name in used if (module := self.module_of(name, text)) and self.is_relation(module, name)}
 
     def is_relation(self, module, name):

@@ -27,9 +27,9 @@ def exports():
 
 
 def layouts():
-    """The fields of each struct of x509_c_calls that C sees."""
+    """The fields of each struct of x509_c_calls and x509_c_lint that C sees."""
     found = {}
-    for file in sorted((TOP / "crates" / "x509_c_calls" / "src").rglob("*.rt")):
+    for file in sorted((TOP / "crates").glob("x509_c_*/src/**/*.rt")):
         for it in STRUCT.finditer(file.read_text(encoding="utf-8")):
             found[it[1]] = re.findall(r"^    pub (\w+): (\w+|\[\w+; \d+\]),$", it[2], re.M)
     return found

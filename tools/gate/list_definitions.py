@@ -16,7 +16,7 @@ from common.indexes import listed, put
 
 PAGE = "docs/DEFINITIONS.md"
 # Crates whose files are all of one kind, each of the object or the group that its name says.
-KINDS = {"x509_text": "of lines that are printed", "x509_lint": "of rules", "x509_lint_web": "of rules", "x509_c_calls": "of what calls from C answer"}
+KINDS = {"x509_text": "of lines that are printed", "x509_lint": "of rules", "x509_lint_web": "of rules", "x509_c_calls": "of what calls from C answer", "x509_c_lint": "of what calls from C answer"}
 USUAL = "RFC 5280"
 STANDARD = re.compile(r"RFC \d+(?:, \d{4}\b)*|X\.\d{3}|IEEE 802\.1AR|ISO 8601|TLS BR|(?:CA/Browser Forum, )?Baseline Requirements")
 SECTION = r"(?:sections? |appendix )?(?!X\.\d{3})((?:[A-Z]\.)?\d+(?:\.\d+)*|(?<=appendix )[A-Z](?:\.\d+)*)\b"

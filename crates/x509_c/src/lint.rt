@@ -1,12 +1,12 @@
 //! Which rules objects break, as lines of JSON, and the texts of these.
 
-ghost use Rattle.x509_c_calls.specs.FindingLines.{FindsTold, StepsFinding};
-ghost use Rattle.x509_c_calls.specs.Findings.{Lints};
+ghost use Rattle.x509_c_lint.specs.FindingLines.{FindsTold, StepsFinding};
+ghost use Rattle.x509_c_lint.specs.Findings.{Lints};
 ghost use Rattle.x509_c_calls.specs.Status.{Tells};
 ghost use Rattle.x509_lint.specs.declared.report.Kind.TheVariants.{Anchor, Certificate, Crl, Csr};
 
 use std::alloc::Global;
-use x509_c_calls::{FindingView, finding_next, lint_object};
+use x509_c_lint::{FindingView, finding_next, lint_object};
 use x509_lint::Kind;
 
 /// Decodes a certificate, and puts a line for each rule that it breaks at the front of the buffer.

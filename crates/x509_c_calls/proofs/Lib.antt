@@ -51,7 +51,6 @@ pub mod Moments
 pub mod PolicyOctets
 pub mod PolicyOids
 pub mod RevocationCrls
-pub mod FindingPlaces
 pub mod MerkleHashes
 pub mod PeerAnswers
 pub mod LeafParts

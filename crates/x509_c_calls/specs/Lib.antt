@@ -82,7 +82,5 @@ pub mod Periods
 pub mod Decimals
 pub mod StatusTexts
 pub mod Documents
-pub mod Findings
-pub mod FindingLines
 pub mod Peers
 pub mod Dates

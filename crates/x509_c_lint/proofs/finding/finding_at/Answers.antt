@@ -1,8 +1,8 @@
 use Rattle.std.proofs.Common.{◌++◌, arith}
 use Rattle.std.specs.Prelude.{codes}
-use Rattle.x509_c_calls.proofs.FindingPlaces.{end-of, onward, rest-fits, stands-on}
-use Rattle.x509_c_calls.proofs.lint.finding.finding_at.Goals as goal
-use Rattle.x509_c_calls.specs.FindingLines.{AreUnquoted, Texts}
+use Rattle.x509_c_lint.proofs.FindingPlaces.{end-of, onward, rest-fits, stands-on}
+use Rattle.x509_c_lint.proofs.finding.finding_at.Goals as goal
+use Rattle.x509_c_lint.specs.FindingLines.{AreUnquoted, Texts}
 
 pub returns-in_default : goal.returns-in_default
 returns-in_default c = λ t more stands.

@@ -1,6 +1,6 @@
 use Rattle.std.proofs.Common.{refl}
-use Rattle.x509_c_calls.proofs.FindingPlaces.{told-found, told-stands}
-use Rattle.x509_c_calls.proofs.lint.finding.finding_next.Goals as goal
+use Rattle.x509_c_lint.proofs.FindingPlaces.{told-found, told-stands}
+use Rattle.x509_c_lint.proofs.finding.finding_next.Goals as goal
 
 pub returns-in-Some-clause-told : goal.returns-in-Some-clause-told
 returns-in-Some-clause-told c = λ word seen more rule unquoted e.

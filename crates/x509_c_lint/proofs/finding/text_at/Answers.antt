@@ -1,5 +1,5 @@
-use Rattle.x509_c_calls.proofs.FindingPlaces.{rest-fits, text-stands, unended}
-use Rattle.x509_c_calls.proofs.lint.finding.text_at.Goals as goal
+use Rattle.x509_c_lint.proofs.FindingPlaces.{rest-fits, text-stands, unended}
+use Rattle.x509_c_lint.proofs.finding.text_at.Goals as goal
 
 pub returns-in_default-quote_in : goal.returns-in_default-quote_in
 returns-in_default-quote_in c = λ text more unquoted e. unended c.args.lines.now _ _ _ _ c.args.at c.in-Some.ensures c.in_default-quote_in.ensures e

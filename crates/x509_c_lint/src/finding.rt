@@ -1,9 +1,9 @@
 //! A walk over findings in lines of JSON, one a call. It takes no memory.
 
 ghost use Rattle.std.specs.Prelude.{◌≡◌, ◌≤◌, ◌+◌, ◌++◌, ◌∷◌, List, ℕ, drop, take, length, MatchOption};
-ghost use Rattle.x509_c_calls.specs.FindingLines.{FindsTold, IsFinding, IsText, IsUnquoted, StandsAt, StepsFinding, Texts};
+ghost use Rattle.x509_c_lint.specs.FindingLines.{FindsTold, IsFinding, IsText, IsUnquoted, StandsAt, StepsFinding, Texts};
 
-use crate::{Span, Status};
+use x509_c_calls::{Span, Status};
 use x509_der::ErrorKind;
 
 /// The texts of a finding, by their places.

@@ -1,7 +1,7 @@
 -- Findings as lines of JSON (RFC 8259), one after the other, and where the texts of one stand.
 use Rattle.std.specs.Prelude.{◌≡◌, ◌+◌, ◌≤◌, ℕ, List, ◌∷◌, ◌++◌, codes, drop, length, All}
 use Rattle.x509_c_calls.specs.Place.{IsAt}
-use Rattle.x509_c_calls.specs.declared.lint.finding.FindingView.{FindingView}
+use Rattle.x509_c_lint.specs.declared.finding.FindingView.{FindingView}
 use Rattle.x509_c_calls.specs.declared.place.span.Span.{Span}
 use Rattle.x509_c_calls.specs.declared.status.status.Status.{Status}
 use Rattle.x509_c_calls.specs.declared.status.status.Status.TheVariants.{Done, NoRoom, Absent, Repeated, Faulty, Limit, Refused}

@@ -4,8 +4,8 @@ use Rattle.std.proofs.lemmas.Bool.{false≢true}
 use Rattle.std.proofs.lemmas.List.Elements.{All-tail}
 use Rattle.std.proofs.lemmas.Slice.Eq.{bytes_eq-Decides}
 use Rattle.std.specs.Prelude.{codes}
-use Rattle.x509_c_calls.specs.FindingLines.{AreUnquoted, IsFinding, IsText, IsUnquoted, Texts, StandsAt, finding_line, texts_of}
-use Rattle.x509_c_calls.specs.declared.lint.finding.FindingView.{FindingView}
+use Rattle.x509_c_lint.specs.FindingLines.{AreUnquoted, IsFinding, IsText, IsUnquoted, Texts, StandsAt, finding_line, texts_of}
+use Rattle.x509_c_lint.specs.declared.finding.FindingView.{FindingView}
 use Rattle.x509_c_calls.specs.Place.{IsAt}
 use Rattle.x509_c_calls.specs.declared.place.span.Span.{Span}
 use Rattle.x509_lint.specs.Report.{json_line, place_members, what_members}

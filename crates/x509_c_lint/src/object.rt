@@ -1,9 +1,9 @@
 //! Which rules an object breaks, as lines of JSON.
 
-ghost use Rattle.x509_c_calls.specs.Findings.{Lints};
+ghost use Rattle.x509_c_lint.specs.Findings.{Lints};
 
-use crate::{Status, fill};
 use std::alloc::Global;
+use x509_c_calls::{Status, fill};
 use x509_der::{ErrorKind, Length};
 use x509_lint::{Kind, Style, lint_kind};
 
@@ -15,7 +15,7 @@ use x509_lint::{Kind, Style, lint_kind};
 /// [`Status::NoRoom`] where the buffer is too small; then `written` is the needed length. `Overlength` exactly where the bytes are more than
 /// [`Length::MAX`]. Within that length `Malformed` exactly where they are the encoding of no such object; `Memory` when out of memory. The buffer is
 /// unchanged then.
-#[tactic(auto, unfolding(crate::specs::Findings::Lints, crate::specs::Status::Fills))]
+#[tactic(auto, unfolding(crate::specs::Findings::Lints, x509_c_calls::specs::Status::Fills))]
 pub fn lint_object(
     alloc: Global,
     kind: Kind,

@@ -1,7 +1,7 @@
 use Rattle.std.proofs.Common.{◌≤◌, length, string_bytes, refl, inl, inr, ◌∙◌}
-use Rattle.x509_c_calls.proofs.Filled.{fills_same}
-use Rattle.x509_c_calls.proofs.lint.object.lint_object.Goals as goal
-use Rattle.x509_c_calls.specs.Findings.{AreFindings, IsSaidIn, Lints}
+use Rattle.x509_c_lint.proofs.Filled.{fills_same}
+use Rattle.x509_c_lint.proofs.object.lint_object.Goals as goal
+use Rattle.x509_c_lint.specs.Findings.{AreFindings, IsSaidIn, Lints}
 use Rattle.x509_der.specs.Element.{limit}
 
 pub returns-in-Ok-Some : goal.returns-in-Ok-Some

@@ -1,0 +1,2 @@
+pub mod FindingPlaces
+pub mod Filled
