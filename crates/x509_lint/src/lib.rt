@@ -19,7 +19,7 @@ pub mod extensions;
 mod facts;
 mod group;
 pub mod labels;
-mod lists;
+pub mod lists;
 mod names;
 mod notices;
 mod other_types;

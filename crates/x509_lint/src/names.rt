@@ -10,10 +10,10 @@ ghost use Rattle.x509_lint.specs.Text as attribute_texts;
 ghost use Rattle.x509_lint.specs.Words.{is_empty, passes};
 ghost use Rattle.x509_lint.specs.declared.texts.TextFault.TheVariants.{Label, OtherCharacter, OtherType, Size};
 
-use crate::lists::{Test, all_of, any_of};
+use crate::lists::{Test, all_of, any_attribute, any_of};
 use crate::passes;
 use crate::texts::{
-    TextFault, has_attribute, has_faulty_text, is_ia5, is_ia5_string, is_utf8, is_utf8_string,
+    TextFault, has_faulty_text, is_ia5, is_ia5_string, is_utf8, is_utf8_string,
 };
 use crate::uris::{before, behind, contains, has_other_host, is_absolute, is_uri};
 use x509_der::{Any, ObjectIdentifier, Tag, oid};
@@ -69,7 +69,7 @@ impl Test<AttributeTypeAndValue> for NoCountry {
 pub(crate) fn has_no_country(name: &Name) -> bool
     ensures { result ≡ has_no_country name.now }
 {
-    has_attribute(&NoCountry, name)
+    any_attribute(&NoCountry, name)
 }
 
 /// That an RDN has no attribute.

@@ -1,18 +1,18 @@
 //! What is asked of the texts of names.
 
-ghost use Rattle.std.specs.List.{list_all, list_any};
+ghost use Rattle.std.specs.List.{list_all};
 ghost use Rattle.std.specs.Prelude.{◌≡◌, IfNone, IfSome, bytes_eq, false, nat_lt, true};
 ghost use Rattle.std.specs.Str.{is_utf8};
 ghost use Rattle.x509_lint.specs.Text as text;
 
-use crate::lists::{Test, all_of, any_of};
+use crate::lists::{Test, all_of, any_attribute};
 use crate::notices::count_chars;
 use crate::passes;
 use x509_der::Tag;
 use x509_host::are_ldh_labels;
 use x509_name::attr::AttributeTypeAndValue;
 use x509_name::attr::attribute_types::{DOMAIN_COMPONENT, EMAIL_ADDRESS};
-use x509_name::name::{Name, RdnSequence};
+use x509_name::name::Name;
 
 /// What may be wrong with the text of an attribute (RFC 5280 4.1.2.4, A.1).
 #[derive(Clone, Copy)]
@@ -321,31 +321,16 @@ impl Test<AttributeTypeAndValue> for TextFault {
     }
 }
 
-/// Whether an attribute of the name passes.
-pub(crate) fn has_attribute<P: Test<AttributeTypeAndValue>>(test: &P, name: &Name) -> bool
-    ensures { result ≡ list_any (λ rdn. list_any (P.holds_of test.now) rdn) name.now }
-{
-    let rdns: &RdnSequence = name.as_ref();
-    let mut rdns = rdns.as_slice();
-    while let [first, rest @ ..] = rdns {
-        if any_of(test, first.as_slice()) {
-            return true;
-        }
-        rdns = rest;
-    }
-    false
-}
-
 /// Whether the text of an attribute of the name has the fault.
 pub(crate) fn has_faulty_text(fault: TextFault, name: &Name) -> bool
     ensures { result ≡ text.has_faulty_text fault name.now }
 {
-    has_attribute(&fault, name)
+    any_attribute(&fault, name)
 }
 
 /// Whether an attribute of the name is an emailAddress.
 pub(crate) fn has_email(name: &Name) -> bool
     ensures { result ≡ text.has_email name.now }
 {
-    has_attribute(&Email, name)
+    any_attribute(&Email, name)
 }

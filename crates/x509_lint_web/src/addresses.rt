@@ -4,6 +4,8 @@ ghost use Rattle.std.specs.List.{list_any};
 ghost use Rattle.std.specs.Prelude.{◌≡◌};
 ghost use Rattle.x509_lint_web.specs.Address as address;
 
+use x509_lint::lists::{Test, any_of};
+
 /// The blocks of IPv4, of each the first address and the last.
 const V4_BLOCKS: [(u32, u32); 18] = [
     // 0.0.0.0/8, this network
@@ -123,22 +125,42 @@ const V6_BLOCKS: [(u128, u128); 15] = [
     ),
 ];
 
+/// An address, and that it lies in a block.
+#[derive(Clone, Copy)]
+struct LiesIn<N>(N);
+
+impl Test<(u32, u32)> for LiesIn<u32> {
+    ghost use Rattle.x509_lint_web.specs.Address.{lies_in};
+
+    ghost holds_of = { λ test. lies_in test.0 };
+
+    fn holds_of(&self, block: &(u32, u32)) -> bool {
+        block.0 <= self.0 && self.0 <= block.1
+    }
+}
+
+impl Test<(u128, u128)> for LiesIn<u128> {
+    ghost use Rattle.x509_lint_web.specs.Address.{lies_in};
+
+    ghost holds_of = { λ test. lies_in test.0 };
+
+    fn holds_of(&self, block: &(u128, u128)) -> bool {
+        block.0 <= self.0 && self.0 <= block.1
+    }
+}
+
 #[tactic(auto, unfolding(crate::specs::Address::v4_blocks))]
 fn is_reserved_v4(number: u32) -> bool
     ensures { result ≡ list_any (address.lies_in number) address.v4_blocks }
 {
-    V4_BLOCKS
-        .iter()
-        .any(|block| block.0 <= number && number <= block.1)
+    any_of(&LiesIn(number), &V4_BLOCKS)
 }
 
 #[tactic(auto, unfolding(crate::specs::Address::v6_blocks))]
 fn is_reserved_v6(number: u128) -> bool
     ensures { result ≡ list_any (address.lies_in number) address.v6_blocks }
 {
-    V6_BLOCKS
-        .iter()
-        .any(|block| block.0 <= number && number <= block.1)
+    any_of(&LiesIn(number), &V6_BLOCKS)
 }
 
 /// Whether the octets are those of a reserved address.

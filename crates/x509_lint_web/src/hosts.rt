@@ -6,6 +6,7 @@ ghost use Rattle.x509_lint_web.specs.Words as words;
 
 use x509_host::behind_wildcard;
 use x509_lint::labels::{is_same, is_xn_label};
+use x509_lint::lists::{Test, all_of, any_of};
 use x509_lint::passes;
 
 /// Whether the text is an HTTP URI.
@@ -18,7 +19,7 @@ pub(crate) fn is_http(text: &[u8]) -> bool
 pub(crate) fn has_octet(octet: u8, text: &[u8]) -> bool
     ensures { result ≡ host.has_octet octet text.now }
 {
-    text.iter().any(|o| *o == octet)
+    text.contains(&octet)
 }
 
 pub(crate) fn has_underscore(text: &[u8]) -> bool
@@ -53,10 +54,23 @@ pub(crate) fn has_xn_label(text: &[u8]) -> bool
     text.split(|octet| *octet == b'.').any(is_xn_label)
 }
 
+/// That an octet is none of ASCII.
+struct BeyondAscii;
+
+impl Test<u8> for BeyondAscii {
+    ghost use Rattle.std.specs.Prelude.{nat_lt};
+
+    ghost holds_of = { λ test octet. nat_lt 127 octet };
+
+    fn holds_of(&self, octet: &u8) -> bool {
+        *octet > 127
+    }
+}
+
 pub(crate) fn is_beyond_ascii(text: &[u8]) -> bool
     ensures { result ≡ host.is_beyond_ascii text.now }
 {
-    text.iter().any(|o| *o > 127)
+    any_of(&BeyondAscii, text)
 }
 
 pub(crate) fn has_other_wildcard(text: &[u8]) -> bool
@@ -102,10 +116,23 @@ pub(crate) fn is_internal(text: &[u8]) -> bool
     is_internal_label(last_label(text))
 }
 
+/// That an octet is a digit.
+struct Digit;
+
+impl Test<u8> for Digit {
+    ghost use Rattle.std.specs.Char.{is_ascii_digit};
+
+    ghost holds_of = { λ test. is_ascii_digit };
+
+    fn holds_of(&self, octet: &u8) -> bool {
+        octet.is_ascii_digit()
+    }
+}
+
 fn are_digits(octets: &[u8]) -> bool
     ensures { result ≡ host.are_digits octets.now }
 {
-    octets.iter().all(|octet| octet.is_ascii_digit())
+    all_of(&Digit, octets)
 }
 
 pub(crate) fn is_numeric(text: &[u8]) -> bool
@@ -127,10 +154,23 @@ pub(crate) fn is_reverse(text: &[u8]) -> bool
     ends_in(text, b".in-addr.arpa") || ends_in(text, b".ip6.arpa")
 }
 
+/// That an octet is one of base32 (RFC 4648 6), in any case.
+struct Base32Octet;
+
+impl Test<u8> for Base32Octet {
+    ghost use Rattle.x509_lint_web.specs.Host.{is_base32};
+
+    ghost holds_of = { λ test. is_base32 };
+
+    fn holds_of(&self, octet: &u8) -> bool {
+        octet.is_ascii_alphabetic() || (b'2' <= *octet && *octet <= b'7')
+    }
+}
+
 fn are_base32(octets: &[u8]) -> bool
     ensures { result ≡ host.are_base32 octets.now }
 {
-    octets.iter().all(|octet| octet.is_ascii_alphabetic() || (b'2' <= *octet && *octet <= b'7'))
+    all_of(&Base32Octet, octets)
 }
 
 fn is_between(octets: &[u8], at: usize, low: u8, high: u8) -> bool

@@ -1,7 +1,7 @@
 //! What is asked of names: those of the SAN, and that of the subject.
 
 ghost use Rattle.std.specs.List.{list_any};
-ghost use Rattle.std.specs.Prelude.{◌≡◌, bytes_eq, filter, length, nat_lt};
+ghost use Rattle.std.specs.Prelude.{◌≡◌, filter, length, nat_lt};
 ghost use Rattle.x509_lint.specs.Words.{is_empty, passes};
 ghost use Rattle.x509_lint_web.specs.Name as grammar;
 ghost use Rattle.x509_lint_web.specs.Policy as policy;
@@ -15,6 +15,7 @@ use crate::hosts::{
 use x509_der::ObjectIdentifier;
 use x509_ext::pkix::SubjectAltName;
 use x509_ext::pkix::name::GeneralName;
+use x509_lint::lists::{Test, any_attribute, any_of};
 use x509_lint::passes;
 use x509_name::attr::AttributeTypeAndValue;
 use x509_name::attr::attribute_types::{COMMON_NAME, COUNTRY_NAME};
@@ -61,12 +62,19 @@ pub(crate) fn is_empty_name(name: &Name) -> bool
     name.len() == 0
 }
 
-fn is_host_name(name: &GeneralName) -> bool
-    ensures { result ≡ grammar.is_host_name name.now }
-{
-    match name {
-        GeneralName::DnsName(_) | GeneralName::IpAddress(_) => true,
-        _ => false,
+/// That a name is a dNSName or an iPAddress.
+pub(crate) struct HostName;
+
+impl Test<GeneralName> for HostName {
+    ghost use Rattle.x509_lint_web.specs.Name.{is_host_name};
+
+    ghost holds_of = { λ test. is_host_name };
+
+    fn holds_of(&self, name: &GeneralName) -> bool {
+        match name {
+            GeneralName::DnsName(_) | GeneralName::IpAddress(_) => true,
+            _ => false,
+        }
     }
 }
 
@@ -114,63 +122,62 @@ pub(crate) fn is_faulty(fault: NameFault, name: &GeneralName) -> bool
     }
 }
 
-fn is_faulty_among(fault: NameFault, names: &[GeneralName]) -> bool
-    ensures { result ≡ list_any (grammar.has_fault fault) names.now }
-{
-    names.iter().any(|name| is_faulty(fault, name))
+impl Test<GeneralName> for NameFault {
+    ghost use Rattle.x509_lint_web.specs.Name.{has_fault};
+
+    ghost holds_of = { has_fault };
+
+    fn holds_of(&self, name: &GeneralName) -> bool {
+        is_faulty(*self, name)
+    }
 }
 
 /// Whether the SAN is read, and a name of it has the fault.
 pub(crate) fn has_name(fault: NameFault, names: &Option<SubjectAltName>) -> bool
     ensures { result ≡ passes (λ s. list_any (grammar.has_fault fault) s.0) names.now }
 {
-    passes!(names, names => is_faulty_among(fault, names.0.as_slice()))
+    passes!(names, names => any_of(&fault, names.0.as_slice()))
 }
 
-pub(crate) fn is_host_among(names: &[GeneralName]) -> bool
-    ensures { result ≡ list_any grammar.is_host_name names.now }
-{
-    names.iter().any(is_host_name)
-}
+/// That an attribute has the type.
+#[derive(Clone, Copy)]
+struct OfType(ObjectIdentifier);
 
-fn is_in(oid: ObjectIdentifier, rdn: &RelativeDistinguishedName) -> bool
-    ensures { result ≡ list_any (λ a. bytes_eq a.oid oid) rdn.now }
-{
-    rdn.as_slice().iter().any(|attribute| attribute.oid == oid)
-}
+impl Test<AttributeTypeAndValue> for OfType {
+    ghost use Rattle.x509_lint_web.specs.Words.{is_of_type};
 
-fn has_attribute_in(oid: ObjectIdentifier, rdns: &[RelativeDistinguishedName]) -> bool
-    ensures { result ≡ words.has_attribute oid rdns.now }
-{
-    rdns.iter().any(|rdn| is_in(oid, rdn))
+    ghost holds_of = { λ test. is_of_type test.0 };
+
+    fn holds_of(&self, attribute: &AttributeTypeAndValue) -> bool {
+        attribute.oid == self.0
+    }
 }
 
 /// Whether some attribute of the name has the type.
 pub(crate) fn has_attribute(oid: ObjectIdentifier, name: &Name) -> bool
     ensures { result ≡ words.has_attribute oid name.now }
 {
-    let rdns: &RdnSequence = name.as_ref();
-    has_attribute_in(oid, rdns.as_slice())
+    any_attribute(&OfType(oid), name)
 }
 
-fn is_other_attribute(attribute: &AttributeTypeAndValue) -> bool
-    ensures { result ≡ policy.is_other_attribute attribute.now }
-{
-    attribute.oid != COUNTRY_NAME && attribute.oid != COMMON_NAME
-}
+/// That an attribute is neither a countryName nor a commonName.
+struct OtherAttribute;
 
-fn has_other_in(rdn: &RelativeDistinguishedName) -> bool
-    ensures { result ≡ list_any policy.is_other_attribute rdn.now }
-{
-    rdn.as_slice().iter().any(is_other_attribute)
+impl Test<AttributeTypeAndValue> for OtherAttribute {
+    ghost use Rattle.x509_lint_web.specs.Policy.{is_other_attribute};
+
+    ghost holds_of = { λ test. is_other_attribute };
+
+    fn holds_of(&self, attribute: &AttributeTypeAndValue) -> bool {
+        attribute.oid != COUNTRY_NAME && attribute.oid != COMMON_NAME
+    }
 }
 
 /// Whether the name has an attribute that is neither countryName nor commonName.
 pub(crate) fn has_other_attribute(name: &Name) -> bool
     ensures { result ≡ policy.has_other_attribute name.now }
 {
-    let rdns: &RdnSequence = name.as_ref();
-    rdns.as_slice().iter().any(has_other_in)
+    any_attribute(&OtherAttribute, name)
 }
 
 /// How many attributes of the RDN have the type.

@@ -1,10 +1,10 @@
 //! In which order the attributes of a subject stand.
 
-ghost use Rattle.std.specs.List.{list_any};
 ghost use Rattle.std.specs.Prelude.{◌≡◌};
 ghost use Rattle.x509_lint_web.specs.Subject as grammar;
 
 use x509_der::ObjectIdentifier;
+use x509_lint::lists::{Test, any_of};
 use x509_name::attr::AttributeTypeAndValue;
 use x509_name::attr::attribute_types::{
     COMMON_NAME, COUNTRY_NAME, DOMAIN_COMPONENT, GIVEN_NAME, LOCALITY_NAME, ORGANIZATION_NAME,
@@ -43,19 +43,19 @@ fn place_of(oid: ObjectIdentifier) -> u8
     }
 }
 
-fn is_below(place: u8, attribute: &AttributeTypeAndValue) -> bool
-    ensures { result ≡ grammar.is_below place attribute.now }
-{
-    let own = place_of(attribute.oid);
-    0 < own && own < place
-}
+/// That the type of an attribute has a place, and it is below this one.
+#[derive(Clone, Copy)]
+struct Below(u8);
 
-fn is_below_in(place: u8, rdn: &RelativeDistinguishedName) -> bool
-    ensures { result ≡ list_any (grammar.is_below place) rdn.now }
-{
-    rdn.as_slice()
-        .iter()
-        .any(|attribute| is_below(place, attribute))
+impl Test<AttributeTypeAndValue> for Below {
+    ghost use Rattle.x509_lint_web.specs.Subject.{is_below};
+
+    ghost holds_of = { λ test. is_below test.0 };
+
+    fn holds_of(&self, attribute: &AttributeTypeAndValue) -> bool {
+        let own = place_of(attribute.oid);
+        0 < own && own < self.0
+    }
 }
 
 /// The highest place: this one, or that of an attribute.
@@ -75,7 +75,7 @@ fn is_disordered_from(place: u8, mut rdns: &[RelativeDistinguishedName]) -> bool
 {
     let mut reached = place;
     while let [first, rest @ ..] = rdns {
-        if is_below_in(reached, first) {
+        if any_of(&Below(reached), first.as_slice()) {
             return true;
         }
         reached = highest(reached, first.as_slice());

@@ -1,11 +1,10 @@
 //! What is asked of places where CRLs, certificates and responders are found, and of the AKI.
 
-ghost use Rattle.std.specs.List.{list_all, list_any};
+ghost use Rattle.std.specs.List.{list_any};
 ghost use Rattle.std.specs.Prelude.{◌≡◌, not};
 ghost use Rattle.x509_lint.specs.Words.{passes};
 ghost use Rattle.x509_lint_web.specs.Field as field;
 ghost use Rattle.x509_lint_web.specs.Policy as policy;
-ghost use Rattle.x509_lint_web.specs.Words.{is_http_name};
 
 use crate::names::is_http_name;
 use crate::values::WebValues;
@@ -18,6 +17,7 @@ use x509_ext::pkix::{
     AccessDescription, AuthorityInfoAccessSyntax, AuthorityKeyIdentifier, CrlDistributionPoints,
 };
 use x509_lint::extensions::{extensions_of, has};
+use x509_lint::lists::{Test, all_of, any_of};
 use x509_lint::passes;
 
 /// id-ad-ocsp, 1.3.6.1.5.5.7.48.1 (RFC 5280 4.2.2.1).
@@ -39,10 +39,17 @@ pub(crate) fn has_issuer(identifier: &Option<AuthorityKeyIdentifier>) -> bool
     }
 }
 
-fn are_http(names: &[GeneralName]) -> bool
-    ensures { result ≡ list_all is_http_name names.now }
-{
-    names.iter().all(is_http_name)
+/// That a name is an HTTP URI.
+struct HttpName;
+
+impl Test<GeneralName> for HttpName {
+    ghost use Rattle.x509_lint_web.specs.Words.{is_http_name};
+
+    ghost holds_of = { λ test. is_http_name };
+
+    fn holds_of(&self, name: &GeneralName) -> bool {
+        is_http_name(name)
+    }
 }
 
 fn is_http_full_name(name: &Option<DistributionPointName>) -> bool
@@ -50,85 +57,90 @@ fn is_http_full_name(name: &Option<DistributionPointName>) -> bool
 {
     match name {
         Some(DistributionPointName::FullName(names)) => {
-            !names.as_slice().is_empty() && are_http(names.as_slice())
+            !names.as_slice().is_empty() && all_of(&HttpName, names.as_slice())
         }
         Some(DistributionPointName::NameRelativeToCRLIssuer(_)) => false,
         None => false,
     }
 }
 
-fn is_without_http(point: &DistributionPoint) -> bool
-    ensures { result ≡ field.is_without_http point.now }
-{
-    !is_http_full_name(&point.distribution_point)
+/// That a point has no full name, or one with a name that isn't an HTTP URI.
+pub(crate) struct WithoutHttp;
+
+impl Test<DistributionPoint> for WithoutHttp {
+    ghost use Rattle.x509_lint_web.specs.Field.{is_without_http};
+
+    ghost holds_of = { λ test. is_without_http };
+
+    fn holds_of(&self, point: &DistributionPoint) -> bool {
+        !is_http_full_name(&point.distribution_point)
+    }
 }
 
-fn is_partial(point: &DistributionPoint) -> bool
-    ensures { result ≡ field.is_partial point.now }
-{
-    point.reasons.is_some() || point.crl_issuer.is_some()
+/// That a point has reasons or a cRLIssuer.
+pub(crate) struct Partial;
+
+impl Test<DistributionPoint> for Partial {
+    ghost use Rattle.x509_lint_web.specs.Field.{is_partial};
+
+    ghost holds_of = { λ test. is_partial };
+
+    fn holds_of(&self, point: &DistributionPoint) -> bool {
+        point.reasons.is_some() || point.crl_issuer.is_some()
+    }
 }
 
-pub(crate) fn is_without_http_among(points: &[DistributionPoint]) -> bool
-    ensures { result ≡ list_any field.is_without_http points.now }
-{
-    points.iter().any(is_without_http)
+/// That the method of a description is neither id-ad-ocsp nor id-ad-caIssuers.
+pub(crate) struct OtherMethod;
+
+impl Test<AccessDescription> for OtherMethod {
+    ghost use Rattle.x509_lint_web.specs.Policy.{has_other_method};
+
+    ghost holds_of = { λ test. has_other_method };
+
+    fn holds_of(&self, description: &AccessDescription) -> bool {
+        description.access_method != OCSP && description.access_method != CA_ISSUERS
+    }
 }
 
-pub(crate) fn is_partial_among(points: &[DistributionPoint]) -> bool
-    ensures { result ≡ list_any field.is_partial points.now }
-{
-    points.iter().any(is_partial)
-}
+/// That the location of a description isn't an HTTP URI.
+struct OtherLocation;
 
-fn has_other_method(description: &AccessDescription) -> bool
-    ensures { result ≡ policy.has_other_method description.now }
-{
-    description.access_method != OCSP && description.access_method != CA_ISSUERS
-}
+impl Test<AccessDescription> for OtherLocation {
+    ghost use Rattle.x509_lint_web.specs.Policy.{has_other_location};
 
-fn has_other_location(description: &AccessDescription) -> bool
-    ensures { result ≡ policy.has_other_location description.now }
-{
-    !is_http_name(&description.access_location)
-}
+    ghost holds_of = { λ test. has_other_location };
 
-pub(crate) fn is_other_method_among(descriptions: &[AccessDescription]) -> bool
-    ensures { result ≡ list_any policy.has_other_method descriptions.now }
-{
-    descriptions.iter().any(has_other_method)
-}
-
-fn is_other_location_among(descriptions: &[AccessDescription]) -> bool
-    ensures { result ≡ list_any policy.has_other_location descriptions.now }
-{
-    descriptions.iter().any(has_other_location)
+    fn holds_of(&self, description: &AccessDescription) -> bool {
+        !is_http_name(&description.access_location)
+    }
 }
 
 /// Whether the descriptions are read, and the location of one isn't an HTTP URI.
 pub(crate) fn have_other_location(descriptions: &Option<AuthorityInfoAccessSyntax>) -> bool
     ensures { result ≡ passes (λ a. list_any policy.has_other_location a.0) descriptions.now }
 {
-    passes!(descriptions, descriptions => is_other_location_among(descriptions.0.as_slice()))
+    passes!(descriptions, descriptions => any_of(&OtherLocation, descriptions.0.as_slice()))
 }
 
-fn is_ocsp(description: &AccessDescription) -> bool
-    ensures { result ≡ policy.is_ocsp description.now }
-{
-    description.access_method == OCSP
-}
+/// That a description is one of an OCSP responder.
+struct Ocsp;
 
-fn is_ocsp_among(descriptions: &[AccessDescription]) -> bool
-    ensures { result ≡ list_any policy.is_ocsp descriptions.now }
-{
-    descriptions.iter().any(is_ocsp)
+impl Test<AccessDescription> for Ocsp {
+    ghost use Rattle.x509_lint_web.specs.Policy.{is_ocsp};
+
+    ghost holds_of = { λ test. is_ocsp };
+
+    fn holds_of(&self, description: &AccessDescription) -> bool {
+        description.access_method == OCSP
+    }
 }
 
 /// Whether the descriptions are read, and none is for OCSP.
 pub(crate) fn are_without_ocsp(descriptions: &Option<AuthorityInfoAccessSyntax>) -> bool
     ensures { result ≡ passes (λ a. not (list_any policy.is_ocsp a.0)) descriptions.now }
 {
-    passes!(descriptions, descriptions => !is_ocsp_among(descriptions.0.as_slice()))
+    passes!(descriptions, descriptions => !any_of(&Ocsp, descriptions.0.as_slice()))
 }
 
 /// Whether the certificate says no place where it is told whether it is revoked.

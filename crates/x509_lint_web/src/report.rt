@@ -1,6 +1,6 @@
 //! What is said of a certificate: a line for each finding.
 
-ghost use Rattle.std.specs.List.{flat_map, list_any};
+ghost use Rattle.std.specs.List.{flat_map};
 ghost use Rattle.std.specs.Prelude.{◌≡◌, IfErr, IfOk, string_bytes};
 ghost use Rattle.x509_der.specs.declared.error.ErrorKind.TheVariants.{Memory};
 ghost use Rattle.x509_lint.specs.Report.{front_of};
@@ -20,22 +20,24 @@ use x509_cert::certificate::CertificateInner;
 use x509_der::{Decode, Error, ErrorKind};
 use x509_ext::pkix::SubjectAltName;
 use x509_ext::pkix::name::GeneralName;
+use x509_lint::lists::{Test, any_of};
 use x509_lint::{Entry, Report, Severity, Style, json_line};
 use x509_text::write_json_text;
 
-fn is_error(rule: &WebRule) -> bool
-    ensures { result ≡ grammar.is_error rule.now }
-{
-    match rule.severity() {
-        Severity::Error => true,
-        Severity::Warning | Severity::NotJudged => false,
-    }
-}
+/// That a rule is one whose breach is an error.
+struct IsError;
 
-fn has_error(findings: &[WebRule]) -> bool
-    ensures { result ≡ list_any grammar.is_error findings.now }
-{
-    findings.iter().any(is_error)
+impl Test<WebRule> for IsError {
+    ghost use Rattle.x509_lint_web.specs.Report.{is_error};
+
+    ghost holds_of = { λ test. is_error };
+
+    fn holds_of(&self, rule: &WebRule) -> bool {
+        match rule.severity() {
+            Severity::Error => true,
+            Severity::Warning | Severity::NotJudged => false,
+        }
+    }
 }
 
 /// What is seen, as it stands between quotation marks in JSON.
@@ -227,7 +229,7 @@ fn report_of(
 {
     Ok(Report {
         text: lines(alloc, style, certificate, values, findings)?,
-        has_error: has_error(findings),
+        has_error: any_of(&IsError, findings),
     })
 }
 

@@ -1,11 +1,11 @@
 //! What is asked of the extensions of a root's certificate.
 
-ghost use Rattle.std.specs.List.{list_any};
 ghost use Rattle.std.specs.Prelude.{◌≡◌};
 ghost use Rattle.x509_lint_web.specs.Root as grammar;
 
 use x509_der::{ObjectIdentifier, oid};
 use x509_ext::Extension;
+use x509_lint::lists::Test;
 
 /// The extensions that a root's certificate may have, or that have a rule of their own: SKI, KeyUsage, basic constraints,
 /// CRLDistributionPoints, certificate policies, AKI, EKU and SCTs (TLS BR 7.1.2.1.2; RFC 6962 3.3).
@@ -23,18 +23,18 @@ const ROOT_EXTENSIONS: [ObjectIdentifier; 8] = [
 fn is_of_roots(extension: ObjectIdentifier) -> bool
     ensures { result ≡ grammar.is_of_roots extension }
 {
-    ROOT_EXTENSIONS.iter().any(|oid| *oid == extension)
+    ROOT_EXTENSIONS.contains(&extension)
 }
 
-fn is_other_extension(extension: &Extension) -> bool
-    ensures { result ≡ grammar.is_other_extension extension.now }
-{
-    !is_of_roots(extension.extn_id)
-}
+/// That an extension is none of those that a root's certificate may have.
+pub(crate) struct OtherExtension;
 
-/// Whether an extension is none of those that a root's certificate may have.
-pub(crate) fn is_other_extension_among(extensions: &[Extension]) -> bool
-    ensures { result ≡ list_any grammar.is_other_extension extensions.now }
-{
-    extensions.iter().any(is_other_extension)
+impl Test<Extension> for OtherExtension {
+    ghost use Rattle.x509_lint_web.specs.Root.{is_other_extension};
+
+    ghost holds_of = { λ test. is_other_extension };
+
+    fn holds_of(&self, extension: &Extension) -> bool {
+        !is_of_roots(extension.extn_id)
+    }
 }

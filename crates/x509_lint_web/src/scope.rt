@@ -12,6 +12,7 @@ use x509_cert::certificate::CertificateInner;
 use x509_der::{ObjectIdentifier, oid};
 use x509_ext::pkix::{AuthorityKeyIdentifier, ExtendedKeyUsage};
 use x509_lint::extensions::{extensions_of, has};
+use x509_lint::lists::{Test, any_of};
 use x509_lint::{AnyBasicConstraints, passes};
 
 /// id-kp-serverAuth, 1.3.6.1.5.5.7.3.1 (RFC 5280 4.2.1.12).
@@ -42,30 +43,32 @@ fn is_leaf(certificate: &CertificateInner<Raw>, values: &WebValues) -> bool
         || passes!(&values.basic_constraints, constraints => !constraints.ca)
 }
 
-fn is_among(oid: ObjectIdentifier, purposes: &[ObjectIdentifier]) -> bool
-    ensures { result ≡ list_any (λ purpose. bytes_eq purpose oid) purposes.now }
-{
-    purposes.iter().any(|purpose| *purpose == oid)
-}
-
 /// Whether the EKU is read, and has the purpose.
 pub(crate) fn has_purpose(oid: ObjectIdentifier, usage: &Option<ExtendedKeyUsage>) -> bool
     ensures { result ≡ passes (λ u. list_any (λ purpose. bytes_eq purpose oid) u.0) usage.now }
 {
-    passes!(usage, usage => is_among(oid, usage.0.as_slice()))
+    passes!(usage, usage => usage.0.as_slice().contains(&oid))
 }
 
-fn is_other_among(oid: ObjectIdentifier, purposes: &[ObjectIdentifier]) -> bool
-    ensures { result ≡ list_any (λ purpose. not (bytes_eq purpose oid)) purposes.now }
-{
-    purposes.iter().any(|purpose| *purpose != oid)
+/// That a purpose is another one than this.
+#[derive(Clone, Copy)]
+struct OtherThan(ObjectIdentifier);
+
+impl Test<ObjectIdentifier> for OtherThan {
+    ghost use Rattle.std.specs.Prelude.{bytes_eq, not};
+
+    ghost holds_of = { λ test purpose. not (bytes_eq purpose test.0) };
+
+    fn holds_of(&self, purpose: &ObjectIdentifier) -> bool {
+        *purpose != self.0
+    }
 }
 
 /// Whether the EKU is read, and has another purpose.
 pub(crate) fn has_other_purpose(oid: ObjectIdentifier, usage: &Option<ExtendedKeyUsage>) -> bool
     ensures { result ≡ passes (λ u. list_any (λ purpose. not (bytes_eq purpose oid)) u.0) usage.now }
 {
-    passes!(usage, usage => is_other_among(oid, usage.0.as_slice()))
+    passes!(usage, usage => any_of(&OtherThan(oid), usage.0.as_slice()))
 }
 
 fn may_serve(certificate: &CertificateInner<Raw>, values: &WebValues) -> bool

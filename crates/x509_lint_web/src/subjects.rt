@@ -1,6 +1,6 @@
 //! What is asked of the attributes of a subject.
 
-ghost use Rattle.std.specs.List.{list_all, list_any};
+ghost use Rattle.std.specs.List.{list_any};
 ghost use Rattle.std.specs.Prelude.{◌≡◌, length, nat_lt};
 ghost use Rattle.x509_lint_web.specs.Authority as authority;
 ghost use Rattle.x509_lint_web.specs.Subject as grammar;
@@ -9,6 +9,7 @@ ghost use Rattle.x509_lint_web.specs.Words.{count_of};
 use crate::countries::is_country;
 use crate::names::{has_attribute, is_repeated};
 use x509_der::{ObjectIdentifier, oid};
+use x509_lint::lists::{Test, all_of, any_attribute, any_of};
 use x509_name::attr::AttributeTypeAndValue;
 use x509_name::attr::attribute_types::{
     COMMON_NAME, COUNTRY_NAME, GIVEN_NAME, LOCALITY_NAME, ORGANIZATION_NAME,
@@ -78,64 +79,93 @@ fn is_country_attribute(attribute: &AttributeTypeAndValue) -> bool
     attribute.oid == COUNTRY_NAME || attribute.oid == JURISDICTION_COUNTRY
 }
 
-fn is_unknown_country(attribute: &AttributeTypeAndValue) -> bool
-    ensures { result ≡ grammar.is_unknown_country attribute.now }
-{
-    is_country_attribute(attribute) && !is_country(attribute.value.value())
-}
+/// That an attribute is a countryName or a jurisdictionCountryName that is no code of a country.
+struct UnknownCountry;
 
-fn is_unknown_country_in(rdn: &RelativeDistinguishedName) -> bool
-    ensures { result ≡ list_any grammar.is_unknown_country rdn.now }
-{
-    rdn.as_slice().iter().any(is_unknown_country)
+impl Test<AttributeTypeAndValue> for UnknownCountry {
+    ghost use Rattle.x509_lint_web.specs.Subject.{is_unknown_country};
+
+    ghost holds_of = { λ test. is_unknown_country };
+
+    fn holds_of(&self, attribute: &AttributeTypeAndValue) -> bool {
+        is_country_attribute(attribute) && !is_country(attribute.value.value())
+    }
 }
 
 /// Whether the name has a countryName or a jurisdictionCountryName that is no code of a country.
 pub(crate) fn has_country_unknown(name: &Name) -> bool
     ensures { result ≡ grammar.has_some grammar.is_unknown_country name.now }
 {
-    let rdns: &RdnSequence = name.as_ref();
-    rdns.as_slice().iter().any(is_unknown_country_in)
+    any_attribute(&UnknownCountry, name)
 }
 
-fn are_marks(octets: &[u8]) -> bool
-    ensures { result ≡ list_all grammar.is_mark octets.now }
-{
-    octets.iter().all(|octet| *octet == b'.' || (*octet == b'-' || *octet == b' '))
+/// That an octet is a full stop, a hyphen or a space.
+struct Mark;
+
+impl Test<u8> for Mark {
+    ghost use Rattle.x509_lint_web.specs.Subject.{is_mark};
+
+    ghost holds_of = { λ test. is_mark };
+
+    fn holds_of(&self, octet: &u8) -> bool {
+        *octet == b'.' || (*octet == b'-' || *octet == b' ')
+    }
 }
 
-fn is_without_text(attribute: &AttributeTypeAndValue) -> bool
-    ensures { result ≡ grammar.is_without_text attribute.now }
-{
-    let octets = attribute.value.value();
-    !octets.is_empty() && are_marks(octets)
-}
+/// That the text of an attribute is of full stops, hyphens and spaces alone.
+struct WithoutText;
 
-fn is_without_text_in(rdn: &RelativeDistinguishedName) -> bool
-    ensures { result ≡ list_any grammar.is_without_text rdn.now }
-{
-    rdn.as_slice().iter().any(is_without_text)
+impl Test<AttributeTypeAndValue> for WithoutText {
+    ghost use Rattle.x509_lint_web.specs.Subject.{is_without_text};
+
+    ghost holds_of = { λ test. is_without_text };
+
+    fn holds_of(&self, attribute: &AttributeTypeAndValue) -> bool {
+        let octets = attribute.value.value();
+        !octets.is_empty() && all_of(&Mark, octets)
+    }
 }
 
 /// Whether the name has an attribute of full stops, hyphens and spaces alone.
 pub(crate) fn has_without_text(name: &Name) -> bool
     ensures { result ≡ grammar.has_some grammar.is_without_text name.now }
 {
-    let rdns: &RdnSequence = name.as_ref();
-    rdns.as_slice().iter().any(is_without_text_in)
+    any_attribute(&WithoutText, name)
+}
+
+/// That a name has two attributes of a type or more.
+#[derive(Clone, Copy)]
+struct RepeatedIn<'a>(&'a Name);
+
+impl Test<ObjectIdentifier> for RepeatedIn<'_> {
+    ghost use Rattle.std.specs.Prelude.{nat_lt};
+    ghost use Rattle.x509_lint_web.specs.Words.{count_of};
+
+    ghost holds_of = { λ test oid. nat_lt 1 (count_of oid test.0.now) };
+
+    fn holds_of(&self, oid: &ObjectIdentifier) -> bool {
+        is_repeated(*oid, self.0)
+    }
 }
 
 /// Whether the name has two attributes or more of a type of which it may have one.
 pub(crate) fn has_repeated(name: &Name) -> bool
     ensures { result ≡ list_any (λ oid. nat_lt 1 (count_of oid name.now)) grammar.single_attributes }
 {
-    SINGLE_ATTRIBUTES.iter().any(|oid| is_repeated(*oid, name))
+    any_of(&RepeatedIn(name), &SINGLE_ATTRIBUTES)
 }
 
-fn is_of_several(rdn: &RelativeDistinguishedName) -> bool
-    ensures { result ≡ nat_lt 1 (length rdn.now) }
-{
-    rdn.as_slice().len() > 1
+/// That an RDN has two attributes or more.
+struct OfSeveral;
+
+impl Test<RelativeDistinguishedName> for OfSeveral {
+    ghost use Rattle.std.specs.Prelude.{length, nat_lt};
+
+    ghost holds_of = { λ test rdn. nat_lt 1 (length rdn) };
+
+    fn holds_of(&self, rdn: &RelativeDistinguishedName) -> bool {
+        rdn.as_slice().len() > 1
+    }
 }
 
 /// Whether an RDN of the name has two attributes or more.
@@ -143,31 +173,31 @@ pub(crate) fn has_rdn_of_several(name: &Name) -> bool
     ensures { result ≡ list_any (λ rdn. nat_lt 1 (length rdn)) name.now }
 {
     let rdns: &RdnSequence = name.as_ref();
-    rdns.as_slice().iter().any(is_of_several)
+    any_of(&OfSeveral, rdns.as_slice())
 }
 
 fn is_of_authorities(attribute: ObjectIdentifier) -> bool
     ensures { result ≡ authority.is_of_authorities attribute }
 {
-    AUTHORITY_ATTRIBUTES.iter().any(|oid| *oid == attribute)
+    AUTHORITY_ATTRIBUTES.contains(&attribute)
 }
 
-fn is_not_of_authorities(attribute: &AttributeTypeAndValue) -> bool
-    ensures { result ≡ authority.is_not_of_authorities attribute.now }
-{
-    !is_of_authorities(attribute.oid)
-}
+/// That an attribute is none that the subject of an authority is to have.
+struct NotOfAuthorities;
 
-fn is_not_of_authorities_in(rdn: &RelativeDistinguishedName) -> bool
-    ensures { result ≡ list_any authority.is_not_of_authorities rdn.now }
-{
-    rdn.as_slice().iter().any(is_not_of_authorities)
+impl Test<AttributeTypeAndValue> for NotOfAuthorities {
+    ghost use Rattle.x509_lint_web.specs.Authority.{is_not_of_authorities};
+
+    ghost holds_of = { λ test. is_not_of_authorities };
+
+    fn holds_of(&self, attribute: &AttributeTypeAndValue) -> bool {
+        !is_of_authorities(attribute.oid)
+    }
 }
 
 /// Whether the name has an attribute that the subject of an authority isn't to have.
 pub(crate) fn has_not_of_authorities(name: &Name) -> bool
     ensures { result ≡ grammar.has_some authority.is_not_of_authorities name.now }
 {
-    let rdns: &RdnSequence = name.as_ref();
-    rdns.as_slice().iter().any(is_not_of_authorities_in)
+    any_attribute(&NotOfAuthorities, name)
 }

@@ -8,6 +8,7 @@ ghost use Rattle.x509_lint_web.specs.Usage as grammar;
 use crate::scope::{OCSP_SIGNING, SERVER_AUTH};
 use x509_der::{ObjectIdentifier, oid};
 use x509_ext::pkix::{ExtendedKeyUsage, KeyUsage};
+use x509_lint::lists::{Test, any_of};
 use x509_lint::passes;
 
 /// id-kp-clientAuth, 1.3.6.1.5.5.7.3.2 (RFC 5280 4.2.1.12).
@@ -46,23 +47,37 @@ fn is_other_purpose(purpose: ObjectIdentifier) -> bool
     purpose != SERVER_AUTH && (purpose != CLIENT_AUTH && !is_forbidden(purpose))
 }
 
-fn is_forbidden_among(purposes: &[ObjectIdentifier]) -> bool
-    ensures { result ≡ list_any grammar.is_forbidden purposes.now }
-{
-    purposes.iter().any(|purpose| is_forbidden(*purpose))
+/// That a purpose is one that TLS servers and authorities above them must not have.
+pub(crate) struct ForbiddenPurpose;
+
+impl Test<ObjectIdentifier> for ForbiddenPurpose {
+    ghost use Rattle.x509_lint_web.specs.Usage.{is_forbidden};
+
+    ghost holds_of = { λ test. is_forbidden };
+
+    fn holds_of(&self, purpose: &ObjectIdentifier) -> bool {
+        is_forbidden(*purpose)
+    }
 }
 
-pub(crate) fn is_other_among(purposes: &[ObjectIdentifier]) -> bool
-    ensures { result ≡ list_any grammar.is_other_purpose purposes.now }
-{
-    purposes.iter().any(|purpose| is_other_purpose(*purpose))
+/// That a purpose is neither serverAuth nor clientAuth, nor one that is forbidden.
+pub(crate) struct OtherPurpose;
+
+impl Test<ObjectIdentifier> for OtherPurpose {
+    ghost use Rattle.x509_lint_web.specs.Usage.{is_other_purpose};
+
+    ghost holds_of = { λ test. is_other_purpose };
+
+    fn holds_of(&self, purpose: &ObjectIdentifier) -> bool {
+        is_other_purpose(*purpose)
+    }
 }
 
 /// Whether the EKU is read, and has a purpose that TLS servers and authorities above them must not have.
 pub(crate) fn has_forbidden_purpose(usage: &Option<ExtendedKeyUsage>) -> bool
     ensures { result ≡ passes (λ u. list_any grammar.is_forbidden u.0) usage.now }
 {
-    passes!(usage, usage => is_forbidden_among(usage.0.as_slice()))
+    passes!(usage, usage => any_of(&ForbiddenPurpose, usage.0.as_slice()))
 }
 
 /// Whether nonRepudiation, encipherOnly or decipherOnly is set.

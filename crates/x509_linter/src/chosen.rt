@@ -19,7 +19,7 @@ use x509_object_run::{Fault, Headed, Heading, PrintError, Printer};
 use x509_tool_run::Sink;
 
 /// What is printed of objects, and the options that choose among their findings.
-#[derive(Clone, Copy, Debug)]
+#[derive(Clone, Copy)]
 pub(crate) struct Chosen<'a> {
     /// What is printed where nothing chooses.
     pub(crate) linter: Linter,
@@ -29,7 +29,7 @@ pub(crate) struct Chosen<'a> {
 }
 
 /// The findings on an object that are reported.
-#[derive(Debug, Drop)]
+#[derive(Drop)]
 struct Findings {
     /// A line for each.
     text: Vec<u8>,

@@ -14,7 +14,7 @@ use x509_object_run::{Console, Opener, refuse_memory, say, show_all};
 use x509_tool_run::{Sink, Source, WriteError};
 
 /// What is printed, kept.
-#[derive(Debug, Drop)]
+#[derive(Drop)]
 pub(crate) struct Kept {
     /// All of it.
     text: Vec<u8>,

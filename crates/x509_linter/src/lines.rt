@@ -9,7 +9,7 @@ use crate::choice::{is_counted, is_picked};
 use std::alloc::{AllocError, Global};
 
 /// The severity of a finding with what stands behind it, and the name of its rule.
-#[derive(Clone, Copy, Debug)]
+#[derive(Clone, Copy)]
 struct Told<'a> {
     severity: &'a [u8],
     name: &'a [u8],

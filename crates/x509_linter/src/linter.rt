@@ -63,7 +63,7 @@ words are wrong. With a CHOICE, 0 and 1 are of the findings that are reported.
 ";
 
 /// How findings are told.
-#[derive(Clone, Copy, Debug, PartialEq, Eq)]
+#[derive(Clone, Copy)]
 pub(crate) enum Telling {
     /// A line for each.
     Lines,
@@ -79,7 +79,7 @@ pub(crate) enum Telling {
 }
 
 /// What the words ask for: how findings are told, of objects of one kind or of any, and by which rules.
-#[derive(Clone, Copy, Debug, PartialEq, Eq)]
+#[derive(Clone, Copy)]
 pub(crate) struct Linter {
     pub(crate) kind: Option<Kind>,
     pub(crate) telling: Telling,

@@ -14,7 +14,7 @@ use x509_lint::{Kind, Report, Style, lint_bytes, lint_kind};
 use x509_lint_web::lint_web_bytes;
 
 /// The moment at which rules of the Baseline Requirements have to be in force.
-#[derive(Clone, Copy, Debug, PartialEq, Eq)]
+#[derive(Clone, Copy)]
 pub(crate) enum Moment {
     /// This one.
     At(DateTime),
@@ -24,7 +24,7 @@ pub(crate) enum Moment {
 }
 
 /// The rules that are asked.
-#[derive(Clone, Copy, Debug, PartialEq, Eq)]
+#[derive(Clone, Copy)]
 pub(crate) enum Rules {
     /// Those of RFC 5280 and of the other standards on objects.
     Rfc,

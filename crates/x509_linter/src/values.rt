@@ -21,7 +21,7 @@ fn is_end(word: &str) -> bool
 }
 
 /// What a word is.
-#[derive(Clone, Copy, Debug, PartialEq, Eq)]
+#[derive(Clone, Copy)]
 enum Part {
     /// An option that awaits its value.
     Awaiting,

@@ -8,7 +8,7 @@ ghost use Rattle.x509_lint_web.specs.Sentence.{IsTold};
 
 use crate::algorithms::{are_null, are_pss, is_ecdsa, is_of_sha1, is_rsa_pkcs1, is_rsa_pss};
 use crate::entry::{WebEntry, entries};
-use crate::places::{has_issuer, is_partial_among, is_without_http_among};
+use crate::places::{Partial, WithoutHttp, has_issuer};
 use crate::scope::{is_authority, is_self_issued};
 use crate::seen::Part;
 use crate::values::WebValues;
@@ -18,6 +18,7 @@ use x509_cert::certificate::CertificateInner;
 use x509_der::{AssociatedOid, ObjectIdentifier};
 use x509_ext::pkix::{AuthorityKeyIdentifier, CrlDistributionPoints};
 use x509_lint::extensions::{extensions_of, has_critical};
+use x509_lint::lists::any_of;
 use x509_lint::passes;
 
 /// Rules on version, signature, key identifier and CRL distribution points of any certificate (TLS BR 7.1.1, 7.1.3.2, 7.1.2.11).
@@ -125,9 +126,9 @@ impl WebFieldRule {
                 extensions_of(certificate),
             ),
             WebFieldRule::CrlDistributionPointNotHttp =>
-                passes!(&values.crl_distribution_points, points => is_without_http_among(points.0.as_slice())),
+                passes!(&values.crl_distribution_points, points => any_of(&WithoutHttp, points.0.as_slice())),
             WebFieldRule::CrlDistributionPointPartial =>
-                passes!(&values.crl_distribution_points, points => is_partial_among(points.0.as_slice())),
+                passes!(&values.crl_distribution_points, points => any_of(&Partial, points.0.as_slice())),
         }
     }
 }

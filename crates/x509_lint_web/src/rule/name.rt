@@ -6,7 +6,7 @@ ghost use Rattle.x509_lint_web.specs.Seen as seen;
 ghost use Rattle.x509_lint_web.specs.Sentence.{IsTold};
 
 use crate::entry::{WebEntry, entries};
-use crate::names::{NameFault, has_attribute, has_name, is_empty_name, is_host_among, is_repeated};
+use crate::names::{HostName, NameFault, has_attribute, has_name, is_empty_name, is_repeated};
 use crate::seen::Part;
 use crate::values::WebValues;
 use x509_base::Raw;
@@ -14,6 +14,7 @@ use x509_cert::certificate::CertificateInner;
 use x509_der::AssociatedOid;
 use x509_ext::pkix::SubjectAltName;
 use x509_lint::extensions::{extensions_of, has, has_critical};
+use x509_lint::lists::any_of;
 use x509_lint::passes;
 use x509_name::attr::attribute_types::{COMMON_NAME, ORGANIZATIONAL_UNIT_NAME};
 
@@ -149,7 +150,7 @@ impl WebNameRule {
         match self {
             WebNameRule::SubjectAltNameAbsent => !has::<SubjectAltName>(extensions_of(certificate)),
             WebNameRule::SubjectAltNameWithoutHost =>
-                passes!(&values.subject_alt_name, names => !is_host_among(names.0.as_slice())),
+                passes!(&values.subject_alt_name, names => !any_of(&HostName, names.0.as_slice())),
             WebNameRule::SubjectAltNameOther => has_name(
                 NameFault::OtherName,
                 &values.subject_alt_name,

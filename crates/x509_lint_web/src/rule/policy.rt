@@ -8,11 +8,11 @@ ghost use Rattle.x509_lint_web.specs.Sentence.{IsTold};
 use crate::entry::{WebEntry, entries};
 use crate::names::{has_attribute, has_other_attribute};
 use crate::places::{
-    are_without_ocsp, have_other_location, is_other_method_among, is_without_revocation,
+    OtherMethod, are_without_ocsp, have_other_location, is_without_revocation,
 };
 use crate::policies::{
-    ANY_POLICY, DOMAIN_VALIDATED, ORGANIZATION_VALIDATED, are_qualified, has_policy,
-    is_other_among, is_reserved_among,
+    ANY_POLICY, DOMAIN_VALIDATED, ORGANIZATION_VALIDATED, OtherQualified, QualifiedPolicy,
+    ReservedPolicy, has_policy,
 };
 use crate::seen::Part;
 use crate::times::is_longer;
@@ -22,6 +22,7 @@ use x509_cert::certificate::CertificateInner;
 use x509_der::AssociatedOid;
 use x509_ext::pkix::{AuthorityInfoAccessSyntax, CertificatePolicies};
 use x509_lint::extensions::{extensions_of, has, has_critical};
+use x509_lint::lists::any_of;
 use x509_lint::passes;
 use x509_name::attr::attribute_types::{COUNTRY_NAME, ORGANIZATION_NAME};
 
@@ -141,12 +142,12 @@ impl WebPolicyRule {
                 extensions,
             ),
             WebPolicyRule::ReservedPolicyAbsent =>
-                passes!(policies, policies => !is_reserved_among(policies.0.as_slice())),
+                passes!(policies, policies => !any_of(&ReservedPolicy, policies.0.as_slice())),
             WebPolicyRule::AnyPolicyPresent => has_policy(ANY_POLICY, policies),
             WebPolicyRule::PolicyQualifiersPresent =>
-                passes!(policies, policies => are_qualified(policies.0.as_slice())),
+                passes!(policies, policies => any_of(&QualifiedPolicy, policies.0.as_slice())),
             WebPolicyRule::PolicyQualifierOther =>
-                passes!(policies, policies => is_other_among(policies.0.as_slice())),
+                passes!(policies, policies => any_of(&OtherQualified, policies.0.as_slice())),
             WebPolicyRule::DomainValidatedAttribute => has_policy(DOMAIN_VALIDATED, policies)
                 && has_other_attribute(subject),
             WebPolicyRule::OrganizationValidatedWithoutOrganization => has_policy(
@@ -162,7 +163,7 @@ impl WebPolicyRule {
             ),
             WebPolicyRule::OcspAccessAbsent => are_without_ocsp(&values.authority_info_access),
             WebPolicyRule::AccessMethodOther =>
-                passes!(&values.authority_info_access, descriptions => is_other_method_among(descriptions.0.as_slice())),
+                passes!(&values.authority_info_access, descriptions => any_of(&OtherMethod, descriptions.0.as_slice())),
             WebPolicyRule::AccessLocationNotHttp => have_other_location(
                 &values.authority_info_access,
             ),

@@ -7,7 +7,7 @@ ghost use Rattle.x509_lint_web.specs.Sentence.{IsTold};
 
 use crate::entry::{WebEntry, entries};
 use crate::names::has_attribute;
-use crate::roots::is_other_extension_among;
+use crate::roots::OtherExtension;
 use crate::seen::Part;
 use crate::times::{is_longer, is_shorter};
 use crate::values::WebValues;
@@ -19,6 +19,7 @@ use x509_ext::pkix::{
     ExtendedKeyUsage,
 };
 use x509_lint::extensions::{extensions_of, has};
+use x509_lint::lists::any_of;
 use x509_lint::passes;
 use x509_name::attr::attribute_types::ORGANIZATIONAL_UNIT_NAME;
 
@@ -111,7 +112,7 @@ impl WebRootRule {
             ),
             WebRootRule::RootPathLenPresent =>
                 passes!(&values.basic_constraints, constraints => constraints.path_len_constraint.is_some()),
-            WebRootRule::RootExtensionOther => is_other_extension_among(extensions),
+            WebRootRule::RootExtensionOther => any_of(&OtherExtension, extensions),
             WebRootRule::RootOrganizationalUnitPresent => has_attribute(
                 ORGANIZATIONAL_UNIT_NAME,
                 certificate.tbs_certificate().subject(),

@@ -7,16 +7,17 @@ ghost use Rattle.x509_lint_web.specs.Sentence.{IsTold};
 
 use crate::entry::{WebEntry, entries};
 use crate::names::has_attribute;
-use crate::places::{have_other_location, is_other_method_among};
-use crate::policies::{ANY_POLICY, are_qualified, has_policy, is_other_among, is_reserved_among};
+use crate::places::{OtherMethod, have_other_location};
+use crate::policies::{ANY_POLICY, OtherQualified, QualifiedPolicy, ReservedPolicy, has_policy};
 use crate::seen::Part;
-use crate::usages::is_other_among as is_other_purpose_among;
+use crate::usages::OtherPurpose;
 use crate::values::WebValues;
 use x509_base::Raw;
 use x509_cert::certificate::CertificateInner;
 use x509_der::AssociatedOid;
 use x509_ext::pkix::{AuthorityInfoAccessSyntax, CertificatePolicies, ExtendedKeyUsage};
 use x509_lint::extensions::{extensions_of, has, has_critical};
+use x509_lint::lists::any_of;
 use x509_lint::passes;
 use x509_name::attr::attribute_types::ORGANIZATIONAL_UNIT_NAME;
 
@@ -129,24 +130,24 @@ impl WebSubordinateRule {
                 ExtendedKeyUsage,
             >(extensions),
             WebSubordinateRule::SubordinateExtendedKeyUsageOther =>
-                passes!(&values.extended_key_usage, usage => is_other_purpose_among(usage.0.as_slice())),
+                passes!(&values.extended_key_usage, usage => any_of(&OtherPurpose, usage.0.as_slice())),
             WebSubordinateRule::SubordinatePoliciesCritical => has_critical::<CertificatePolicies>(
                 extensions,
             ),
             WebSubordinateRule::SubordinateWithoutReservedPolicy =>
-                passes!(policies, policies => !is_reserved_among(policies.0.as_slice()))
+                passes!(policies, policies => !any_of(&ReservedPolicy, policies.0.as_slice()))
                     && !has_policy(ANY_POLICY, policies),
             WebSubordinateRule::SubordinateAnyPolicyAmongOthers => has_policy(ANY_POLICY, policies)
                 && passes!(policies, policies => policies.0.as_slice().len() > 1),
             WebSubordinateRule::SubordinatePolicyQualifiersPresent =>
-                passes!(policies, policies => are_qualified(policies.0.as_slice())),
+                passes!(policies, policies => any_of(&QualifiedPolicy, policies.0.as_slice())),
             WebSubordinateRule::SubordinatePolicyQualifierOther =>
-                passes!(policies, policies => is_other_among(policies.0.as_slice())),
+                passes!(policies, policies => any_of(&OtherQualified, policies.0.as_slice())),
             WebSubordinateRule::SubordinateWithoutAuthorityInfoAccess => !has::<
                 AuthorityInfoAccessSyntax,
             >(extensions),
             WebSubordinateRule::SubordinateAccessMethodOther =>
-                passes!(&values.authority_info_access, descriptions => is_other_method_among(descriptions.0.as_slice())),
+                passes!(&values.authority_info_access, descriptions => any_of(&OtherMethod, descriptions.0.as_slice())),
             WebSubordinateRule::SubordinateAccessLocationNotHttp => have_other_location(
                 &values.authority_info_access,
             ),

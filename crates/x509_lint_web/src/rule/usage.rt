@@ -9,7 +9,7 @@ use crate::algorithms::{is_ec, is_rsa};
 use crate::entry::{WebEntry, entries};
 use crate::seen::Part;
 use crate::usages::{
-    has_bit_not_of_ec, has_forbidden_purpose, is_not_of_servers, is_other_among, signs_as_authority,
+    OtherPurpose, has_bit_not_of_ec, has_forbidden_purpose, is_not_of_servers, signs_as_authority,
 };
 use crate::values::WebValues;
 use x509_base::Raw;
@@ -17,6 +17,7 @@ use x509_cert::certificate::CertificateInner;
 use x509_der::AssociatedOid;
 use x509_ext::pkix::{BasicConstraints, ExtendedKeyUsage, KeyUsage, SubjectKeyIdentifier};
 use x509_lint::extensions::{extensions_of, has, has_critical, has_uncritical};
+use x509_lint::lists::any_of;
 use x509_lint::passes;
 
 /// Rules on what certificates of TLS servers are used for (TLS BR 7.1.2.7.6, 7.1.2.7.10, 7.1.2.7.11).
@@ -117,7 +118,7 @@ impl WebUsageRule {
                 &values.extended_key_usage,
             ),
             WebUsageRule::ExtendedKeyUsageOther =>
-                passes!(&values.extended_key_usage, usage => is_other_among(usage.0.as_slice())),
+                passes!(&values.extended_key_usage, usage => any_of(&OtherPurpose, usage.0.as_slice())),
             WebUsageRule::ExtendedKeyUsageCritical => has_critical::<ExtendedKeyUsage>(extensions),
             WebUsageRule::KeyUsageAbsent => !has::<KeyUsage>(extensions),
             WebUsageRule::KeyUsageNotCritical => has_uncritical::<KeyUsage>(extensions),
