@@ -17,7 +17,7 @@ fn is_copied<T: Decode + TryClone + Drop>(rt: &HostRuntime, bytes: &[u8]) -> boo
 }
 
 /// A general name of each kind, in the order of their tags (RFC 5280 4.2.1.6).
-const GENERAL_NAMES: [&[u8]; 8] = [
+static GENERAL_NAMES: [&[u8]; 8] = [
     b"\xA0\x09\x06\x03\x2A\x03\x04\xA0\x02\x05\x00",
     b"\x81\x01a",
     b"\x82\x01a",
@@ -46,7 +46,7 @@ const MODULE: &[u8] = b"\x30\x08\x06\x03\x2A\x03\x04\x04\x01\xAA";
 
 #[test]
 fn copies(rt: HostRuntime) {
-    for bytes in GENERAL_NAMES {
+    for bytes in &GENERAL_NAMES {
         assert!(rt; is_copied::<GeneralName>(&rt, bytes));
     }
     let answers = [

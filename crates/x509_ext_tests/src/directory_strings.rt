@@ -28,24 +28,27 @@ fn is_string(rt: &HostRuntime, bytes: &[u8], text: &str) -> bool {
 }
 
 /// A string of each case, and its text.
-const STRINGS: [(&[u8], &str); 4] = [
+static STRINGS: [(&[u8], &str); 4] = [
     (b"\x13\x02US", "US"),
     (b"\x14\x01@", "@"),
     (b"\x0C\x02\xC3\xA4", "ä"),
     (b"\x1E\x04\x00\x41\x20\xAC", "A€"),
 ];
 
-/// Those; and the strings of two elements, of which an IA5String is none.
+/// Those; and the string of an element, of which a NULL has none.
 #[test]
 fn strings(rt: HostRuntime) -> Result<(), Fail> {
-    for (bytes, text) in STRINGS {
+    for (bytes, text) in &STRINGS {
         assert!(rt; is_string(&rt, bytes, text), "of {text}");
     }
     let printable = Any::from_der(rt.alloc(), b"\x13\x02US")?;
-    let ia5 = Any::from_der(rt.alloc(), b"\x16\x02US")?;
+    let null = Any::null(rt.alloc());
     assert!(rt;
         DirectoryString::from_any(rt.alloc(), &printable).is_ok()
-            && is_refused(DirectoryString::from_any(rt.alloc(), &ia5), ErrorKind::Malformed)
+            && is_refused(
+                DirectoryString::from_any(rt.alloc(), &null),
+                ErrorKind::Malformed
+            )
     );
     Ok(())
 }

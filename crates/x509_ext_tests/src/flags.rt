@@ -7,7 +7,7 @@ use x509_ext::pkix::crl::dp::Reasons;
 use x509_ext::pkix::{CrlReason, KeyUsages};
 
 /// The uses of a key, the named bit 0 first (RFC 5280 4.2.1.3).
-const USES: [(&str, KeyUsages); 9] = [
+static USES: [(&str, KeyUsages); 9] = [
     ("DIGITAL_SIGNATURE", KeyUsages::DIGITAL_SIGNATURE),
     ("NON_REPUDIATION", KeyUsages::NON_REPUDIATION),
     ("KEY_ENCIPHERMENT", KeyUsages::KEY_ENCIPHERMENT),
@@ -20,7 +20,7 @@ const USES: [(&str, KeyUsages); 9] = [
 ];
 
 /// The reasons of distribution points, the named bit 0 first (RFC 5280 4.2.1.13).
-const REASONS: [(&str, Reasons); 9] = [
+static REASONS: [(&str, Reasons); 9] = [
     ("UNUSED", Reasons::UNUSED),
     ("KEY_COMPROMISE", Reasons::KEY_COMPROMISE),
     ("CA_COMPROMISE", Reasons::CA_COMPROMISE),
@@ -51,7 +51,7 @@ fn named_bits(rt: HostRuntime) {
 }
 
 /// The reasons of an entry, and their numbers (RFC 5280 5.3.1).
-const NUMBERS: [(u8, CrlReason); 10] = [
+static NUMBERS: [(u8, CrlReason); 10] = [
     (0, CrlReason::Unspecified),
     (1, CrlReason::KeyCompromise),
     (2, CrlReason::CaCompromise),
@@ -66,8 +66,11 @@ const NUMBERS: [(u8, CrlReason); 10] = [
 
 #[test]
 fn named_numbers(rt: HostRuntime) {
-    for (number, reason) in NUMBERS {
-        let read = CrlReason::from_der(rt.alloc(), &[0x0A, 0x01, number]);
-        assert!(rt; matches!(read, Ok(found) if found == reason), "of {number}");
+    for (number, reason) in &NUMBERS {
+        let read = CrlReason::from_der(rt.alloc(), &[0x0A, 0x01, *number]);
+        assert!(rt;
+            matches!(read, Ok(found) if found == *reason),
+            "of {number}"
+        );
     }
 }

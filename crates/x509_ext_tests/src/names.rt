@@ -11,19 +11,19 @@ fn insert(rt: &HostRuntime, rdn: &mut RelativeDistinguishedName, text: &str) -> 
     rdn.insert(AttributeTypeAndValue::from_str(rt.alloc(), text)?)
 }
 
-/// Into an empty set, into one of one attribute, and into a list.
+/// Into a set of one attribute, a list, and an empty set.
 #[test]
 fn insertions(rt: HostRuntime) -> Result<(), Fail> {
+    let mut one = RelativeDistinguishedName::from_str(rt.alloc(), "CN=a")?;
+    assert!(rt; insert(&rt, &mut one, "O=b").is_ok());
+    let mut rdns = RdnSequence::new(rt.alloc());
+    assert!(rt; rdns.push(one).is_ok() && is_printed(&rt, &rdns, "CN=a+O=b"));
     let mut rdn = RelativeDistinguishedName::new(rt.alloc());
     assert!(rt;
         insert(&rt, &mut rdn, "CN=a").is_ok()
             && insert(&rt, &mut rdn, "O=b").is_ok()
             && is_refused(insert(&rt, &mut rdn, "CN=a"), ErrorKind::SetDuplicate)
     );
-    let mut one = RelativeDistinguishedName::from_str(rt.alloc(), "CN=a")?;
-    assert!(rt; insert(&rt, &mut one, "O=b").is_ok());
-    let mut rdns = RdnSequence::new(rt.alloc());
-    assert!(rt; rdns.push(one).is_ok() && is_printed(&rt, &rdns, "CN=a+O=b"));
     Ok(())
 }
 

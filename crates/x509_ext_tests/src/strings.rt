@@ -93,11 +93,12 @@ fn made_of_others(rt: HostRuntime) -> Result<(), Fail> {
     }
     let teletex = AnyRef::new(Tag::TeletexString, b"@")?;
     let visible = AnyRef::new(Tag::VisibleString, b"~")?;
+    let octets = OctetString::new(rt.alloc(), &[1, 2])?;
     assert!(rt;
         TeletexStringRef::from_any(teletex).is_ok() && VisibleStringRef::from_any(visible).is_ok()
     );
-    let octets = OctetString::new(rt.alloc(), &[1, 2])?.into_bytes()?;
-    let members = SetOfVec::from_one(rt.alloc(), 5_u8).into_vec()?;
-    assert!(rt; octets.len() == 2 && members.len() == 1);
+    assert!(rt;
+        octets.into_bytes().is_ok() && SetOfVec::from_one(rt.alloc(), 5_u8).into_vec().is_ok()
+    );
     Ok(())
 }

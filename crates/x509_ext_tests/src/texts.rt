@@ -33,13 +33,13 @@ fn rows(rt: HostRuntime) {
 }
 
 /// Texts of no attribute: half an escape, no octets, no value.
-const NO_ATTRIBUTES: [&str; 3] = ["CN=a\\4", "CN=#", "CN"];
+static NO_ATTRIBUTES: [&str; 3] = ["CN=a\\4", "CN=#", "CN"];
 
 /// What is no attribute is no RDN and no name either; nor is what has an attribute twice.
 #[test]
 fn refusals(rt: HostRuntime) {
     let alloc = rt.alloc();
-    for text in NO_ATTRIBUTES {
+    for text in &NO_ATTRIBUTES {
         let encoded = AttributeTypeAndValue::encode_from_string(alloc, text);
         let answers = [
             is_refused(encoded, ErrorKind::Failed),

@@ -5,43 +5,18 @@ use std::test::*;
 use x509_der::{Decode, Error as DerError, ErrorKind};
 use x509_sct::tls::{NamedByte, Tls, TlsByteVecU16, TlsError};
 use x509_sct::{
-    DigitallySigned, Error, HashAlgorithm, LogId, PreCert, SerializedSct, SignatureAlgorithm,
-    SignatureAndHashAlgorithm, SignatureType, SignedCertificateTimestamp,
-    SignedCertificateTimestampList, SignedEntry, Version,
+    Error, HashAlgorithm, PreCert, SerializedSct, SignatureAlgorithm, SignatureType,
+    SignedCertificateTimestamp, SignedCertificateTimestampList, SignedEntry,
 };
 
 /// A list of one timestamp: the log of 32 octets 2A, 1,683,095,206,506 milliseconds, no extensions, and the signature
 /// of the octets 0, 1 and 2 with SHA-256 and ECDSA.
-const ONE: [u8; 56] = [
+static ONE: [u8; 56] = [
     0x04, 0x36, 0x00, 0x34, 0x00, 0x32, 0x00, 0x2A, 0x2A, 0x2A, 0x2A, 0x2A, 0x2A, 0x2A, 0x2A, 0x2A,
     0x2A, 0x2A, 0x2A, 0x2A, 0x2A, 0x2A, 0x2A, 0x2A, 0x2A, 0x2A, 0x2A, 0x2A, 0x2A, 0x2A, 0x2A, 0x2A,
     0x2A, 0x2A, 0x2A, 0x2A, 0x2A, 0x2A, 0x2A, 0x00, 0x00, 0x01, 0x87, 0xE0, 0x4A, 0xBA, 0x6A, 0x00,
     0x00, 0x04, 0x03, 0x00, 0x03, 0x00, 0x01, 0x02,
 ];
-
-/// The timestamp in [`ONE`].
-fn timestamp(rt: &HostRuntime) -> Result<SignedCertificateTimestamp, TlsError> {
-    let signature = DigitallySigned {
-        algorithm: SignatureAndHashAlgorithm {
-            hash: HashAlgorithm::Sha256,
-            signature: SignatureAlgorithm::Ecdsa,
-        },
-        signature: TlsByteVecU16::from_slice(rt.alloc(), &[0, 1, 2])?,
-    };
-    Ok(SignedCertificateTimestamp {
-        version: Version::V1,
-        log_id: LogId { key_id: [0x2A; 32] },
-        timestamp: 1_683_095_206_506,
-        extensions: TlsByteVecU16::from_slice(rt.alloc(), &[])?,
-        signature,
-    })
-}
-
-/// The list of that timestamp.
-fn list_of_one(rt: &HostRuntime) -> Result<SignedCertificateTimestampList, Error> {
-    let serialized = SerializedSct::new(rt.alloc(), timestamp(rt)?)?;
-    SignedCertificateTimestampList::new(rt.alloc(), &[serialized])
-}
 
 /// The first timestamp of the list that is written so.
 fn first_of(rt: &HostRuntime, bytes: &[u8]) -> Result<SignedCertificateTimestamp, Error> {
@@ -53,28 +28,42 @@ fn first_of(rt: &HostRuntime, bytes: &[u8]) -> Result<SignedCertificateTimestamp
     }
 }
 
-/// What a log signs of that timestamp for an entry, of a certificate or a precertificate.
-fn are_signed(rt: &HostRuntime, found: &SignedCertificateTimestamp) -> bool {
+/// The list of the timestamp.
+fn list_of(
+    rt: &HostRuntime,
+    timestamp: SignedCertificateTimestamp,
+) -> Result<SignedCertificateTimestampList, Error> {
+    let serialized = SerializedSct::new(rt.alloc(), timestamp)?;
+    SignedCertificateTimestampList::new(rt.alloc(), &[serialized])
+}
+
+/// Whether the timestamp is signed for an entry, of a certificate and of a precertificate.
+fn is_signed(rt: &HostRuntime, timestamp: &SignedCertificateTimestamp) -> bool {
     let certificate = SignedEntry::X509(b"\x30\x02\x05\x00");
     let precertificate = SignedEntry::Precert(PreCert {
         issuer_key_hash: [0x5A; 32],
         tbs_certificate: b"\x30\x02\x05\x00",
     });
-    found.signed_input(rt.alloc(), &certificate).is_ok()
-        && found.signed_input(rt.alloc(), &precertificate).is_ok()
+    timestamp.signed_input(rt.alloc(), &certificate).is_ok()
+        && timestamp.signed_input(rt.alloc(), &precertificate).is_ok()
 }
 
-/// Whether the timestamp of [`ONE`] is there, is serialized and signed.
-fn is_used(rt: &HostRuntime) -> bool {
-    match SignedCertificateTimestamp::tls_deserialize_bytes(rt.alloc(), &ONE[6..]) {
-        Ok((found, _)) => found.tls_serialize(rt.alloc()).is_ok() && are_signed(rt, &found),
+/// Whether the timestamp in [`ONE`] is serialized and signed, and makes that list again.
+fn is_made_again(rt: &HostRuntime) -> bool {
+    match first_of(rt, &ONE) {
+        Ok(found) => {
+            found.tls_serialize(rt.alloc()).is_ok()
+                && is_signed(rt, &found)
+                && gives(rt, list_of(rt, found), &ONE)
+        }
         Err(_) => false,
     }
 }
 
 #[test]
 fn lists(rt: HostRuntime) {
-    assert!(rt; gives(&rt, list_of_one(&rt), &ONE) && first_of(&rt, &ONE).is_ok() && is_used(&rt));
+    let front = SignedCertificateTimestamp::tls_deserialize_bytes(rt.alloc(), &ONE[6..]);
+    assert!(rt; front.is_ok() && is_made_again(&rt));
 }
 
 /// Whether no timestamp is had of the list by that fault of TLS.
@@ -98,7 +87,7 @@ fn is_spoilt(rt: &HostRuntime, place: usize, byte: u8, fault: TlsError) -> bool 
 }
 
 /// A version, a hash and a signature without a name, and a signature that is longer than what is there.
-const SPOILT: [(usize, u8, TlsError); 4] = [
+static SPOILT: [(usize, u8, TlsError); 4] = [
     (6, 1, TlsError::UnknownValue(1)),
     (49, 7, TlsError::UnknownValue(7)),
     (50, 9, TlsError::UnknownValue(9)),
@@ -106,7 +95,7 @@ const SPOILT: [(usize, u8, TlsError); 4] = [
 ];
 
 /// Lists that are cut off or go on, and of timestamps of no version and of no octets.
-const LISTS: [(&[u8], TlsError); 4] = [
+static LISTS: [(&[u8], TlsError); 4] = [
     (b"\x04\x03\x00\x01\x00", TlsError::EndOfStream),
     (b"\x04\x03\x00\x00\x00", TlsError::TrailingData),
     (b"\x04\x05\x00\x03\x00\x01\x41", TlsError::UnknownValue(65)),
@@ -116,11 +105,11 @@ const LISTS: [(&[u8], TlsError); 4] = [
 /// Those; and a timestamp that goes on behind a signature of two octets.
 #[test]
 fn refusals(rt: HostRuntime) {
-    for (place, byte, fault) in SPOILT {
-        assert!(rt; is_spoilt(&rt, place, byte, fault), "at {place}");
+    for (place, byte, fault) in &SPOILT {
+        assert!(rt; is_spoilt(&rt, *place, *byte, *fault), "at {place}");
     }
-    for (list, fault) in LISTS {
-        assert!(rt; is_fault(&rt, list, fault), "{fault}");
+    for (list, fault) in &LISTS {
+        assert!(rt; is_fault(&rt, list, *fault), "{fault}");
     }
     let mut bytes = ONE;
     bytes[52] = 2;
@@ -128,7 +117,7 @@ fn refusals(rt: HostRuntime) {
 }
 
 /// The hash algorithms (RFC 5246 section 7.4.1.4.1, RFC 8422 section 5.1.3).
-const HASHES: [(HashAlgorithm, u8); 8] = [
+static HASHES: [(HashAlgorithm, u8); 8] = [
     (HashAlgorithm::None, 0),
     (HashAlgorithm::Md5, 1),
     (HashAlgorithm::Sha1, 2),
@@ -140,7 +129,7 @@ const HASHES: [(HashAlgorithm, u8); 8] = [
 ];
 
 /// The signature algorithms.
-const SIGNATURES: [(SignatureAlgorithm, u8); 6] = [
+static SIGNATURES: [(SignatureAlgorithm, u8); 6] = [
     (SignatureAlgorithm::Anonymous, 0),
     (SignatureAlgorithm::Rsa, 1),
     (SignatureAlgorithm::Dsa, 2),
@@ -151,11 +140,11 @@ const SIGNATURES: [(SignatureAlgorithm, u8); 6] = [
 
 #[test]
 fn bytes_of_algorithms(rt: HostRuntime) {
-    for (hash, byte) in HASHES {
-        assert!(rt; hash.byte() == byte);
+    for (hash, byte) in &HASHES {
+        assert!(rt; hash.byte() == *byte);
     }
-    for (signature, byte) in SIGNATURES {
-        assert!(rt; signature.byte() == byte);
+    for (signature, byte) in &SIGNATURES {
+        assert!(rt; signature.byte() == *byte);
     }
     assert!(rt; SignatureType::TreeHash.byte() == 1);
 }

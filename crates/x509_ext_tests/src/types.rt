@@ -28,7 +28,7 @@ fn prints_digits(rt: &HostRuntime, header: &str, count: usize) -> Result<bool, E
 }
 
 /// Headers of OCTET STRINGs, and how long these are.
-const HEADERS: [(&str, usize); 4] = [
+static HEADERS: [(&str, usize); 4] = [
     ("0441", 65),
     ("048180", 128),
     ("04820100", 256),
@@ -37,9 +37,9 @@ const HEADERS: [(&str, usize); 4] = [
 
 #[test]
 fn long_values(rt: HostRuntime) {
-    for (header, count) in HEADERS {
+    for (header, count) in &HEADERS {
         assert!(rt;
-            matches!(prints_digits(&rt, header, count), Ok(true)),
+            matches!(prints_digits(&rt, header, *count), Ok(true)),
             "of {count}"
         );
     }
