@@ -23,7 +23,7 @@ FIRST, LAST = "x509_der", "x509_codec"
 WORDS = ["Overlength", "Malformed", "Failed", "SetDuplicate", "Value", "EndOfStream", "UnknownValue", "TrailingData", "InvalidVectorLength"]
 WORDS += ["Refused", "PublicKey", "Signature", "NonUniqueRdn", "NonUniqueATV", "InvalidAttribute", "MissingAttributes"]
 FAULTS = {"PathFault": "PathReason", "ValidationFault": "ValidationReason"}
-NEVER = "None: it is never refused"
+NEVER = "None: it is never refused", "No memory is taken"
 
 
 @dataclasses.dataclass(frozen=True)
@@ -50,7 +50,7 @@ def variants(crate, name):
 
 def takes_memory(it):
     """Whether the call may answer that it is out of memory."""
-    if NEVER in it.errors or "Result" not in it.answer:
+    if "Result" not in it.answer or any(said in it.errors for said in NEVER):
         return False
     told = it.errors + it.contract
     hands_on = it.errors == "" or re.search(r"\[`|\bThose of\b", it.errors)

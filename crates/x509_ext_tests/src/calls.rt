@@ -1,37 +1,9 @@
 //! What the tests ask.
 
 use std::fmt::{Debug, Display};
-use x509_der::{Decode, Encode, Error, ErrorKind, TryClone};
+use x509_der::{Encode, Error, ErrorKind, TryClone};
 use x509_ext::ToExtension;
 use x509_name::name::Name;
-
-/// Whether the bytes are read, and a copy that equals the value is written as they were.
-pub(crate) fn stays<T: Decode + Encode + TryClone + PartialEq + Drop>(
-    rt: &HostRuntime,
-    bytes: &[u8],
-) -> bool {
-    match T::from_der(rt.alloc(), bytes) {
-        Ok(value) => is_copied(rt, &value, bytes),
-        Err(_) => false,
-    }
-}
-
-/// Whether a copy of the value equals it, and is written as these bytes.
-pub(crate) fn is_copied<T: Encode + TryClone + PartialEq + Drop>(
-    rt: &HostRuntime,
-    value: &T,
-    bytes: &[u8],
-) -> bool {
-    match value.try_clone(rt.alloc()) {
-        Ok(copy) => copy == *value && is_written(rt, &copy, bytes),
-        Err(_) => false,
-    }
-}
-
-/// Whether the value is written as these bytes.
-pub(crate) fn is_written<T: Encode>(rt: &HostRuntime, value: &T, bytes: &[u8]) -> bool {
-    are_bytes(value.to_der(rt.alloc()), bytes)
-}
 
 /// Whether these bytes were made.
 pub(crate) fn are_bytes(made: Result<Vec<u8>, Error>, bytes: &[u8]) -> bool {
@@ -48,18 +20,9 @@ pub(crate) fn gives<T: Encode + Drop, E: Drop>(
     bytes: &[u8],
 ) -> bool {
     match made {
-        Ok(value) => is_written(rt, &value, bytes),
+        Ok(value) => are_bytes(value.to_der(rt.alloc()), bytes),
         Err(_) => false,
     }
-}
-
-/// Whether the value that the one bytes spell is written as the others.
-pub(crate) fn becomes<T: Decode + Encode + Drop>(
-    rt: &HostRuntime,
-    bytes: &[u8],
-    written: &[u8],
-) -> bool {
-    gives(rt, T::from_der(rt.alloc(), bytes), written)
 }
 
 /// Whether the extension that is made for the empty subject is written as these bytes.
@@ -82,9 +45,9 @@ pub(crate) fn is_printed<T: Display>(rt: &HostRuntime, value: &T, text: &str) ->
 }
 
 /// Whether a value was made, which prints the text.
-pub(crate) fn prints<T: Display + Drop, E: Drop>(
+pub(crate) fn prints<T: Display + Drop>(
     rt: &HostRuntime,
-    made: Result<T, E>,
+    made: Result<T, Error>,
     text: &str,
 ) -> bool {
     match made {
@@ -93,14 +56,17 @@ pub(crate) fn prints<T: Display + Drop, E: Drop>(
     }
 }
 
-/// Whether a value was made, which `Debug` shows so.
-pub(crate) fn shows<T: Debug + Drop, E: Drop>(
+/// Whether a value was made and copied, and `Debug` shows the copy so.
+pub(crate) fn shows<T: TryClone + Debug + Drop>(
     rt: &HostRuntime,
-    made: Result<T, E>,
+    made: Result<T, Error>,
     text: &str,
 ) -> bool {
-    match made {
-        Ok(value) => is_text(format!(in rt.alloc(); "{value:?}"), text),
+    let Ok(value) = made else {
+        return false;
+    };
+    match value.try_clone(rt.alloc()) {
+        Ok(copy) => is_text(format!(in rt.alloc(); "{copy:?}"), text),
         Err(_) => false,
     }
 }

@@ -1,10 +1,9 @@
-//! Extensions, and how they are made: the identifiers and the criticality of RFC 5280 4.2 and 5.2, and copies.
+//! Extensions that are made of their payloads: identifiers and criticality (RFC 5280 4.2 and 5.2, RFC 6962 3), refusals, and memory.
 
-use crate::calls::{is_made, is_refused, is_written, stays};
+use crate::calls::{is_made, is_refused};
 use bitflags::Flags;
 use std::test::*;
 use x509_der::{AssociatedOid, Decode, Encode, Error, ErrorKind, ObjectIdentifier, TryClone, oid};
-use x509_ext::pkix::certpolicy::UserNotice;
 use x509_ext::pkix::crl::dp::Reasons;
 use x509_ext::pkix::{
     AuthorityInfoAccessSyntax, AuthorityKeyIdentifier, BaseCrlNumber, BasicConstraints,
@@ -13,37 +12,31 @@ use x509_ext::pkix::{
     KeyUsage, KeyUsages, NameConstraints, PolicyConstraints, PolicyMappings, PrivateKeyUsagePeriod,
     SubjectAltName, SubjectDirectoryAttributes, SubjectInfoAccessSyntax, SubjectKeyIdentifier,
 };
-use x509_ext::{Criticality, Extension, ToExtension};
+use x509_ext::{Criticality, ToExtension};
 use x509_name::name::Name;
 use x509_prim::OctetString;
+use x509_sct::{CtPrecertificatePoison, SignedCertificateTimestampList};
 
-/// Whether a copy that equals the payload makes the extension with these bytes.
-fn makes<T>(rt: &HostRuntime, payload: &T, extension: &[u8]) -> bool
-where
-    T: AssociatedOid + Criticality + Encode + TryClone + PartialEq + Drop,
-{
-    match payload.try_clone(rt.alloc()) {
-        Ok(copy) => copy == *payload && is_made(rt, &copy, extension),
-        Err(_) => false,
-    }
-}
-
-/// Whether the bytes behind the front of the extension are those of a payload, of which the extension is made.
+/// Whether the bytes behind the front of the extension are those of a payload, of whose copy the extension is made.
 fn is_payload<T>(rt: &HostRuntime, front: usize, extension: &[u8]) -> bool
 where
-    T: AssociatedOid + Criticality + Decode + Encode + TryClone + PartialEq + Drop,
+    T: AssociatedOid + Criticality + Decode + Encode + TryClone + Drop,
 {
     let Some(bytes) = extension.get(front..) else {
         return false;
     };
-    match T::from_der(rt.alloc(), bytes) {
-        Ok(payload) => makes(rt, &payload, extension),
+    let Ok(payload) = T::from_der(rt.alloc(), bytes) else {
+        return false;
+    };
+    match payload.try_clone(rt.alloc()) {
+        Ok(copy) => is_made(rt, &copy, extension),
         Err(_) => false,
     }
 }
 
+/// Under an empty subject the SAN is critical (RFC 5280 4.2.1.6).
 #[test]
-fn of_keys(rt: HostRuntime) {
+fn of_keys_and_parties(rt: HostRuntime) {
     let answers = [
         is_payload::<SubjectKeyIdentifier>(
             &rt,
@@ -66,18 +59,15 @@ fn of_keys(rt: HostRuntime) {
             b"\x30\x14\x06\x03\x55\x1D\x23\x04\x0D\x30\x0B\x80\x01\xAA\xA1\x03\x82\x01\x61\x82\x01\x2A",
         ),
         is_payload::<ExtendedKeyUsage>(&rt, 9, b"\x30\x09\x06\x03\x55\x1D\x25\x04\x02\x30\x00"),
-    ];
-    assert!(rt; answers == [true; 5]);
-}
-
-/// An attribute of no values, an address, and an access by 1.3.6.1.5.5.7.48.1 at a resource.
-#[test]
-fn of_parties(rt: HostRuntime) {
-    let answers = [
         is_payload::<SubjectDirectoryAttributes>(
             &rt,
             9,
             b"\x30\x12\x06\x03\x55\x1D\x09\x04\x0B\x30\x09\x30\x07\x06\x03\x55\x04\x06\x31\x00",
+        ),
+        is_payload::<SubjectAltName>(
+            &rt,
+            12,
+            b"\x30\x0C\x06\x03\x55\x1D\x11\x01\x01\xFF\x04\x02\x30\x00",
         ),
         is_payload::<IssuerAltName>(
             &rt,
@@ -94,14 +84,23 @@ fn of_parties(rt: HostRuntime) {
             14,
             b"\x30\x1D\x06\x08\x2B\x06\x01\x05\x05\x07\x01\x0B\x04\x11\x30\x0F\x30\x0D\x06\x08\x2B\x06\x01\x05\x05\x07\x30\x01\x86\x01\x78",
         ),
+        is_payload::<SignedCertificateTimestampList>(
+            &rt,
+            16,
+            b"\x30\x12\x06\x0A\x2B\x06\x01\x04\x01\xD6\x79\x02\x04\x02\x04\x04\x04\x02\x00\x00",
+        ),
+        is_payload::<CtPrecertificatePoison>(
+            &rt,
+            19,
+            b"\x30\x13\x06\x0A\x2B\x06\x01\x04\x01\xD6\x79\x02\x04\x03\x01\x01\xFF\x04\x02\x05\x00",
+        ),
     ];
-    assert!(rt; answers == [true; 4]);
+    assert!(rt; answers == [true; 12]);
 }
 
-/// The policy 1.2.3, with the URI of a certification practice statement (CPS) as qualifier, and that policy mapped to 1.2.4; the trees
-/// of a domain, and the flag of a certification authority.
+/// Of policies and constraints, and of CRLs.
 #[test]
-fn of_policies(rt: HostRuntime) {
+fn of_policies_and_lists(rt: HostRuntime) {
     let answers = [
         is_payload::<CertificatePolicies>(
             &rt,
@@ -133,15 +132,6 @@ fn of_policies(rt: HostRuntime) {
             12,
             b"\x30\x13\x06\x03\x55\x1D\x1E\x01\x01\xFF\x04\x09\x30\x07\xA1\x05\x30\x03\x82\x01\x61",
         ),
-        InhibitAnyPolicy::default() == InhibitAnyPolicy(0),
-    ];
-    assert!(rt; answers == [true; 7]);
-}
-
-/// Numbers, a reason, an issuer, and points with names: in full, by reasons, and relative to an issuer.
-#[test]
-fn of_lists(rt: HostRuntime) {
-    let answers = [
         is_payload::<CrlNumber>(&rt, 9, b"\x30\x0A\x06\x03\x55\x1D\x14\x04\x03\x02\x01\x01"),
         is_payload::<CrlReason>(&rt, 9, b"\x30\x0A\x06\x03\x55\x1D\x15\x04\x03\x0A\x01\x01"),
         is_payload::<CertificateIssuer>(
@@ -166,51 +156,7 @@ fn of_lists(rt: HostRuntime) {
         ),
         is_payload::<FreshestCrl>(&rt, 9, b"\x30\x09\x06\x03\x55\x1D\x2E\x04\x02\x30\x00"),
     ];
-    assert!(rt; answers == [true; 7]);
-}
-
-/// The notice of number 1 of the organization `O` with the text `A` as UTF8String.
-const NOTICE: &[u8] = b"\x30\x0D\x30\x08\x16\x01O\x30\x03\x02\x01\x01\x0C\x01A";
-
-/// A critical extension.
-const CRITICAL: &[u8] = b"\x30\x0D\x06\x03\x55\x1D\x0E\x01\x01\xFF\x04\x03\x04\x01\xAA";
-
-/// Whether the extension of no names that is made under the subject is written so.
-fn is_under(rt: &HostRuntime, subject: &Name, extension: &[u8]) -> bool {
-    let names = SubjectAltName::new(rt.alloc());
-    match names.to_extension(rt.alloc(), subject, &[]) {
-        Ok(made) => is_written(rt, &made, extension),
-        Err(_) => false,
-    }
-}
-
-/// Whether that is a subject, under which it is written so.
-fn is_under_found(rt: &HostRuntime, subject: Result<Name, Error>, extension: &[u8]) -> bool {
-    match subject {
-        Ok(subject) => is_under(rt, &subject, extension),
-        Err(_) => false,
-    }
-}
-
-/// Under an empty subject the SAN is critical (RFC 5280 4.2.1.6).
-#[test]
-fn names_of_a_subject(rt: HostRuntime) {
-    assert!(rt;
-        is_under(
-            &rt,
-            &Name::new(rt.alloc()),
-            b"\x30\x0C\x06\x03\x55\x1D\x11\x01\x01\xFF\x04\x02\x30\x00"
-        )
-    );
-    let subject = Name::from_str(rt.alloc(), "CN=a");
-    assert!(rt;
-        is_under_found(
-            &rt,
-            subject,
-            b"\x30\x09\x06\x03\x55\x1D\x11\x04\x02\x30\x00"
-        ) && stays::<UserNotice>(&rt, NOTICE)
-            && stays::<Extension>(&rt, CRITICAL)
-    );
+    assert!(rt; answers == [true; 13]);
 }
 
 /// 1.2.3.4.
@@ -223,12 +169,6 @@ const UNDER_ITS_OWN: &[u8] = b"\x30\x0B\x06\x03\x55\x1D\x0F\x04\x04\x03\x02\x07\
 
 const UNDER_ANOTHER: &[u8] = b"\x30\x0B\x06\x03\x2A\x03\x04\x04\x04\x03\x02\x07\x80";
 
-/// Whether there is no extension of it, which has a bit without a name.
-fn is_unnamed<T: ToExtension>(rt: &HostRuntime, of: T) -> bool {
-    let made = of.to_extension(rt.alloc(), &Name::new(rt.alloc()), &[]);
-    is_refused(made, ErrorKind::Value)
-}
-
 /// A usage in three forms; and bits without a name.
 #[test]
 fn usages(rt: HostRuntime) {
@@ -238,9 +178,13 @@ fn usages(rt: HostRuntime) {
             && is_made(&rt, (false, &usage), UNDER_ITS_OWN)
             && is_made(&rt, (IDENTIFIER, false, &usage), UNDER_ANOTHER)
     );
-    assert!(rt; is_unnamed(&rt, &KeyUsage(KeyUsages::from_bits_retain(512))));
+    let unnamed = KeyUsage(KeyUsages::from_bits_retain(512));
+    let made = (&unnamed).to_extension(rt.alloc(), &Name::new(rt.alloc()), &[]);
     let reasons = Reasons::from_bits_retain(512);
-    assert!(rt; is_refused(reasons.to_der(rt.alloc()), ErrorKind::Value));
+    assert!(rt;
+        is_refused(made, ErrorKind::Value)
+            && is_refused(reasons.to_der(rt.alloc()), ErrorKind::Value)
+    );
 }
 
 /// Whether the extension of a key identifier of so many octets has memory of just the length of its value.

@@ -1,45 +1,104 @@
-//! Whole numbers of any size, bit strings and octet strings.
+//! Numbers, strings, lists and sets: those that take memory, made and copied, and what `Debug` shows of them.
 
-use crate::calls::{shows, stays};
+use crate::calls::{prints, shows};
 use std::test::*;
-use x509_prim::{BitString, Int, OctetString, Uint};
+use x509_base::{Raw, SerialNumber};
+use x509_der::{Any, AnyRef, Bytes, Decode, FromAny, SequenceOf, SetOfVec, Tag};
+use x509_prim::{
+    BitString, BmpString, Int, OctetString, PrintableString, TeletexStringRef, Uint, Utf8String,
+    VisibleString, VisibleStringRef,
+};
 
-/// Whether the octets are whole bytes, which are given back.
-fn is_whole(rt: &HostRuntime, octets: &[u8]) -> bool {
-    match BitString::from_bytes(rt.alloc(), octets) {
-        Ok(whole) => matches!(whole.as_bytes(), Some(bytes) if bytes == octets),
-        Err(_) => false,
-    }
+/// As many octets as take memory, and what `Debug` shows of them.
+const OCTETS: &[u8] = &[1; 25];
+
+const SHOWN: &str = "[1, 1, 1, 1, 1, 1, 1, 1, 1, 1, 1, 1, 1, 1, 1, 1, 1, 1, 1, 1, 1, 1, 1, 1, 1]";
+
+const SHOWN_BITS: &str =
+    "[1, 1, 1, 1, 1, 1, 1, 1, 1, 1, 1, 1, 1, 1, 1, 1, 1, 1, 1, 1, 1, 1, 1, 1, 1], 0 unused";
+
+/// A text of as many octets, and it in quotes.
+const TEXT: &str = "more than twenty four letters";
+
+const QUOTED: &str = "\"more than twenty four letters\"";
+
+#[test]
+fn shown(rt: HostRuntime) {
+    let alloc = rt.alloc();
+    let answers = [
+        shows(&rt, Bytes::from_slice(alloc, OCTETS), SHOWN),
+        shows(&rt, Int::new(alloc, OCTETS), SHOWN),
+        shows(&rt, Uint::new(alloc, OCTETS), SHOWN),
+        shows(&rt, OctetString::new(alloc, OCTETS), SHOWN),
+        shows(&rt, BitString::new(alloc, 0, OCTETS), SHOWN_BITS),
+        shows(&rt, BitString::from_bytes(alloc, OCTETS), SHOWN_BITS),
+        shows(&rt, PrintableString::new(alloc, TEXT), QUOTED),
+        shows(&rt, Utf8String::new(alloc, TEXT), QUOTED),
+        shows(&rt, BmpString::from_str(alloc, "A€"), "[0, 65, 32, 172]"),
+    ];
+    assert!(rt; answers == [true; 9]);
+    let answers = [
+        prints(&rt, PrintableString::new(alloc, TEXT), TEXT),
+        prints(&rt, Utf8String::new(alloc, TEXT), TEXT),
+        shows(
+            &rt,
+            SequenceOf::<u8>::from_der(alloc, b"\x30\x06\x02\x01\x07\x02\x01\x05"),
+            "[7, 5]",
+        ),
+        shows(
+            &rt,
+            SetOfVec::<u32>::from_der(alloc, b"\x31\x07\x02\x01\x09\x02\x02\x01\x2C"),
+            "[9, 300]",
+        ),
+        shows(&rt, SerialNumber::<Raw>::from_u8(alloc, 5), "[5]"),
+        prints(
+            &rt,
+            SerialNumber::<Raw>::new(alloc, b"\xAA\xBB\xCC\x01\x10\x00\x11"),
+            "00:AA:BB:CC:01:10:00:11",
+        ),
+    ];
+    assert!(rt; answers == [true; 6]);
 }
 
-/// Whether the octets are those of a string, which are given back.
-fn are_given_back(rt: &HostRuntime, octets: &[u8]) -> bool {
-    let Ok(string) = OctetString::new(rt.alloc(), octets) else {
+/// Whether the value in the element, of the type that the tag tells, is made.
+fn is_made_of(rt: &HostRuntime, tag: Tag, content: &[u8]) -> bool {
+    let Ok(any) = Any::new(rt.alloc(), tag, content) else {
         return false;
     };
-    match string.into_bytes() {
-        Ok(given) => given.as_slice() == octets,
-        Err(_) => false,
+    match tag {
+        Tag::VisibleString => VisibleString::from_any(rt.alloc(), &any).is_ok(),
+        Tag::Utf8String => Utf8String::from_any(rt.alloc(), &any).is_ok(),
+        Tag::BmpString => BmpString::from_any(rt.alloc(), &any).is_ok(),
+        _ => OctetString::from_any(rt.alloc(), &any).is_ok(),
     }
 }
 
-/// Integers, bit strings and octet strings.
+/// The types of strings that are made of elements.
+const STRINGS: [Tag; 4] = [
+    Tag::VisibleString,
+    Tag::Utf8String,
+    Tag::BmpString,
+    Tag::OctetString,
+];
+
+/// Values out of elements; the types of two borrowed strings; and the octets and the members that were inside a value, moved into memory.
 #[test]
-fn numbers_and_strings(rt: HostRuntime) {
-    let alloc = rt.alloc();
-    let bits = BitString::new(alloc, 4, &[0xFF, 0x80]);
-    let answers = [
-        stays::<Int>(&rt, b"\x02\x02\xFF\x7F"),
-        stays::<Uint>(&rt, b"\x02\x02\x00\xFF"),
-        shows(&rt, Int::new(alloc, &[0xFF, 0x7F]), "[255, 127]"),
-        shows(&rt, Uint::new(alloc, &[0, 0, 0x80]), "[0, 128]"),
-        shows(&rt, Uint::from_u128(alloc, 128), "[0, 128]"),
-        stays::<BitString>(&rt, b"\x03\x02\x04\x80"),
-        is_whole(&rt, &[0x81]),
-        shows(&rt, bits, "[255, 128], 4 unused"),
-        stays::<OctetString>(&rt, b"\x04\x02\x00\xFF"),
-        shows(&rt, OctetString::new(alloc, &[1, 2]), "[1, 2]"),
-        are_given_back(&rt, &[0xAB; 30]),
-    ];
-    assert!(rt; answers == [true; 11]);
+fn made_of_others(rt: HostRuntime) -> Result<(), Fail> {
+    for tag in STRINGS {
+        assert!(rt;
+            is_made_of(&rt, tag, b"more than twenty four octets"),
+            "of {}",
+            tag.octet()
+        );
+    }
+    let teletex = AnyRef::new(Tag::TeletexString, b"@")?;
+    let visible = AnyRef::new(Tag::VisibleString, b"~")?;
+    let octets = OctetString::new(rt.alloc(), &[1, 2])?;
+    assert!(rt;
+        TeletexStringRef::from_any(teletex).is_ok() && VisibleStringRef::from_any(visible).is_ok()
+    );
+    assert!(rt;
+        octets.into_bytes().is_ok() && SetOfVec::from_one(rt.alloc(), 5_u8).into_vec().is_ok()
+    );
+    Ok(())
 }

@@ -32,40 +32,35 @@ fn rows(rt: HostRuntime) {
     assert!(rt; answers == [true; 5]);
 }
 
-/// Whether the text is refused so as a name.
-fn refuses(rt: &HostRuntime, text: &str, kind: ErrorKind) -> bool {
-    is_refused(Name::from_str(rt.alloc(), text), kind)
-}
+/// Texts of no attribute: half an escape, no octets, no value.
+static NO_ATTRIBUTES: [&str; 3] = ["CN=a\\4", "CN=#", "CN"];
 
-/// Whether the text is refused so as an RDN.
-fn refuses_rdn(rt: &HostRuntime, text: &str, kind: ErrorKind) -> bool {
-    is_refused(RelativeDistinguishedName::from_str(rt.alloc(), text), kind)
-}
-
-/// Whether the text is none of an attribute, also where it is to be encoded.
-fn is_no_attribute(rt: &HostRuntime, text: &str) -> bool {
-    let encoded = AttributeTypeAndValue::encode_from_string(rt.alloc(), text);
-    let read = AttributeTypeAndValue::from_str(rt.alloc(), text);
-    let answers = [
-        is_refused(encoded, ErrorKind::Failed),
-        is_refused(read, ErrorKind::Failed),
-    ];
-    answers == [true; 2]
-}
-
-/// The first that is wrong is told. What is no attribute is no RDN either; nor is what has an attribute twice.
+/// What is no attribute is no RDN and no name either; nor is what has an attribute twice.
 #[test]
 fn refusals(rt: HostRuntime) {
-    let answers = [
-        refuses(&rt, "CN=b+CN=b,CN=a\\4", ErrorKind::SetDuplicate),
-        refuses(&rt, "CN=a\\4,CN=b+CN=b", ErrorKind::Failed),
-        is_no_attribute(&rt, "CN=a\\4"),
-        is_no_attribute(&rt, "CN=#"),
-        is_no_attribute(&rt, "CN"),
-        refuses_rdn(&rt, "CN=a\\4", ErrorKind::Failed),
-        refuses_rdn(&rt, "CN=#", ErrorKind::Failed),
-        refuses_rdn(&rt, "CN", ErrorKind::Failed),
-        refuses_rdn(&rt, "CN=b+CN=b", ErrorKind::SetDuplicate),
-    ];
-    assert!(rt; answers == [true; 9]);
+    let alloc = rt.alloc();
+    for text in &NO_ATTRIBUTES {
+        let encoded = AttributeTypeAndValue::encode_from_string(alloc, text);
+        let answers = [
+            is_refused(encoded, ErrorKind::Failed),
+            is_refused(
+                AttributeTypeAndValue::from_str(alloc, text),
+                ErrorKind::Failed,
+            ),
+            is_refused(
+                RelativeDistinguishedName::from_str(alloc, text),
+                ErrorKind::Failed,
+            ),
+            is_refused(Name::from_str(alloc, text), ErrorKind::Failed),
+        ];
+        assert!(rt; answers == [true; 4], "at {text}");
+    }
+    let rdn = RelativeDistinguishedName::from_str(alloc, "CN=b+CN=b");
+    assert!(rt;
+        is_refused(rdn, ErrorKind::SetDuplicate)
+            && is_refused(
+                Name::from_str(alloc, "CN=b+CN=b,CN=a"),
+                ErrorKind::SetDuplicate
+            )
+    );
 }
