@@ -101,6 +101,10 @@ const PEM: &[u8] = b"-----BEGIN CERTIFICATE-----\n\
       MAAwCjAFBgMqAwQDAQAwBQYDKgMEAwEA\n\
       -----END CERTIFICATE-----\n";
 
+/// PEM behind a control character, as DER may hold it.
+const PEM_IN_DER: &[u8] = b"\x0C\x7F\n-----BEGIN A-----\nMAA=\n-----END A-----\n\
+      -----BEGIN A-----\nMAA=\n-----END A-----\n";
+
 #[test]
 fn paths(rt: HostRuntime) {
     let alloc = rt.alloc();
@@ -115,8 +119,16 @@ fn paths(rt: HostRuntime) {
             b"fault 0 Signature\n",
         ),
         ends(alloc, PATH_ANY, PEM, Lapse::Never, 0, b"ok\n"),
+        ends(
+            alloc,
+            PATH_ANY,
+            PEM_IN_DER,
+            Lapse::Never,
+            1,
+            b"refused: Failed\n",
+        ),
     ];
-    assert!(rt; answers == [true; 3]);
+    assert!(rt; answers == [true; 4]);
 }
 
 /// The first read that fails ends the reading, the first write that fails or takes nothing the run. None is tried again.
