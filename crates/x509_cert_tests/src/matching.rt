@@ -11,21 +11,9 @@ const SPACED: &[u8] =
 const CAPITALS: &[u8] =
     b"\x30\x22\x31\x0B\x30\x09\x06\x03\x55\x04\x06\x13\x02us\x31\x13\x30\x11\x06\x03\x55\x04\x03\x13\x0AJOHN SMITH";
 
-/// `C=US` and the PrintableString `CN=JohnSmith`.
-const JOINED: &[u8] =
-    b"\x30\x21\x31\x0B\x30\x09\x06\x03\x55\x04\x06\x13\x02US\x31\x12\x30\x10\x06\x03\x55\x04\x03\x13\x09JohnSmith";
-
-/// Whether the names match whose encodings these are.
-fn is_same(rt: &HostRuntime, a: &[u8], b: &[u8]) -> Option<bool> {
-    match encoded_names_match(rt.alloc(), a, b) {
-        Ok(same) => Some(same),
-        Err(_) => None,
-    }
-}
-
 /// Case is folded, and spaces in front and behind and further ones between count for nothing (RFC 4518 2.2 and 2.6.1).
 #[test]
-fn names(rt: HostRuntime) {
-    assert!(rt; is_same(&rt, SPACED, CAPITALS) == Some(true));
-    assert!(rt; is_same(&rt, SPACED, JOINED) == Some(false));
+fn names(rt: HostRuntime) -> Result<(), Fail> {
+    assert!(rt; encoded_names_match(rt.alloc(), SPACED, CAPITALS)?);
+    Ok(())
 }

@@ -418,25 +418,27 @@ fn timestamps(
     it
 }
 
-/// The version of an anchor's description, which is another type than that of certificates.
-fn version_of_an_anchor(info: &anchor::TrustAnchorInfo) -> &anchor::Version {
-    &info.version
-}
-
-/// The parts of a CSR, and what it asks for.
-fn parts_of_requests<'a>(
+/// The version of an anchor's description, which is another type than that of certificates; the parts of a CSR, and what it asks for.
+fn parts_of_others<'a>(
+    info: &'a anchor::TrustAnchorInfo,
     request: &'a request::CertReq,
     extensions: &'a request::ExtensionReq,
 ) -> (
+    &'a anchor::Version,
     &'a request::CertReqInfo,
     &'a request::Version,
     &'a ext::Extensions,
 ) {
-    (&request.info, &request.info.version, &extensions.0)
+    (
+        &info.version,
+        &request.info,
+        &request.info.version,
+        &extensions.0,
+    )
 }
 
-/// Wants the traits of decoding and encoding.
-fn wants_der<'a, T>()
+/// Wants the traits of decoding and encoding, and those of extensions, of profiles and of digests.
+fn wants_traits<'a, T, E, P, D>()
 where
     T: x509_der::AssociatedOid
         + x509_der::FromAny<'a>
@@ -446,10 +448,13 @@ where
         + x509_der::TryClone
         + x509_der::DerOrd
         + x509_der::ValueOrd,
+    E: x509_ext::Criticality + x509_ext::ToExtension,
+    P: x509_base::Profile,
+    D: x509_cert::certificate::CertDigest,
 {}
 
-/// The traits of decoding and encoding.
-fn traits_of_der<'a, T>()
+/// These traits.
+fn traits<'a, T, E, P, D>()
 where
     T: der::AssociatedOid
         + der::FromAny<'a>
@@ -459,26 +464,11 @@ where
         + der::TryClone
         + der::DerOrd
         + der::ValueOrd,
-{
-    wants_der::<'a, T>();
-}
-
-/// Wants the traits of extensions, of profiles and of digests.
-fn wants_traits<T, P, D>()
-where
-    T: x509_ext::Criticality + x509_ext::ToExtension,
-    P: x509_base::Profile,
-    D: x509_cert::certificate::CertDigest,
-{}
-
-/// The traits of extensions, of profiles and of digests.
-fn traits<T, P, D>()
-where
-    T: ext::Criticality + ext::ToExtension,
+    E: ext::Criticality + ext::ToExtension,
     P: certificate::Profile,
     D: certificate::CertDigest,
 {
-    wants_traits::<T, P, D>();
+    wants_traits::<'a, T, E, P, D>();
 }
 
 /// The identifiers that stand alone (RFC 5280 4.2.1, RFC 4108 5).

@@ -1,13 +1,11 @@
-//! Tests of what logs sign, of their entries and of their trees.
+//! Tests of what logs sign, and of their trees.
 #![tactic(auto)]
 
 #[cfg(test)]
-mod cuts;
-#[cfg(test)]
 mod embedded;
 #[cfg(test)]
-mod entries;
-#[cfg(test)]
-mod reissued;
+mod signing;
 #[cfg(test)]
 mod trees;
+#[cfg(test)]
+mod vectors;
