@@ -1,10 +1,12 @@
-//! Tests of certificates, CRLs, CSRs and trust anchors, and of runs of the program over them.
+//! Tests of certificates, CRLs, CSRs and trust anchors, of what logs sign and of their trees, and of runs of the program over files of these.
 #![tactic(auto)]
 
 #[cfg(test)]
 mod certificate;
 #[cfg(test)]
 mod copies;
+#[cfg(test)]
+mod embedded;
 #[cfg(test)]
 mod example;
 #[cfg(test)]
@@ -27,3 +29,9 @@ mod paths;
 mod program;
 #[cfg(test)]
 mod requests;
+#[cfg(test)]
+mod signing;
+#[cfg(test)]
+mod trees;
+#[cfg(test)]
+mod vectors;
