@@ -1,6 +1,7 @@
 //! Builders, by each signer, and what they refuse.
 
 use crate::calls::is_refused;
+use crate::profiles::Bare;
 use crate::signers::{ECHO, Echo};
 use crate::source::Zeros;
 use bitflags::Flags;
@@ -62,12 +63,11 @@ fn root(rt: &HostRuntime) -> Result<Vec<u8>> {
     Ok(certificate.to_der(alloc)?)
 }
 
-/// A builder of such a certificate with one more extension.
-fn certificate(rt: &HostRuntime) -> Result<CertificateBuilder<Root>> {
-    let subject = Name::from_str(rt.alloc(), "CN=R,O=T,C=US")?;
-    let mut builder = builder(rt, Root::new(false, subject)?, ABC_KEY)?;
-    builder.add_extension(rt.alloc(), (ECHO, false, &Reasons::KEY_COMPROMISE))?;
-    Ok(builder)
+/// A builder of a certificate with one extension, by a profile that takes it or refuses.
+fn certificate(rt: &HostRuntime, takes_extensions: bool) -> Result<CertificateBuilder<Bare>> {
+    let mut made = builder(rt, Bare { takes_extensions }, ABC_KEY)?;
+    made.add_extension(rt.alloc(), (ECHO, false, &Reasons::KEY_COMPROMISE))?;
+    Ok(made)
 }
 
 /// A builder of the certificate of a server, with a kind that no profile has.
@@ -124,7 +124,7 @@ fn list(rt: &HostRuntime, second: u64) -> Result<CrlBuilder> {
 }
 
 /// Whether the builder builds with the signer, or is refused with this text.
-fn is_built<T: Encode + Drop, B: Builder<Output = T>>(
+fn is_built<T: Drop, B: Builder<Output = T>>(
     rt: &HostRuntime,
     builder: Result<B>,
     signer: &Echo,
@@ -157,19 +157,23 @@ fn with_each_signer(rt: HostRuntime) {
         (Echo::RefusesMessage, false, unsigned, unsigned),
         (Echo::RefusesMessage, true, unsigned, unsigned),
     ] {
-        assert!(rt; is_built(&rt, certificate(&rt), &signer, with_rng, text));
+        assert!(rt; is_built(&rt, certificate(&rt, true), &signer, with_rng, text));
         assert!(rt; is_built(&rt, request(&rt), &signer, with_rng, text));
         assert!(rt; is_built(&rt, list(&rt, LAST), &signer, with_rng, of_list));
     }
 }
 
-/// An extension that can't be made, since its payload has a bit without a name; an attribute twice; a CRL of the year 10000; and a
-/// certificate that its profile refuses.
+/// A signer without memory; an extension that can't be made, since its payload has a bit without a name; an attribute twice; a CRL of the
+/// year 10000; and certificates that their profiles refuse.
 #[test]
 fn refusals(rt: HostRuntime) -> std::result::Result<(), Fail> {
+    let no_key: Result<()> = Err(Error::PublicKey(KeyError::Memory));
+    assert!(rt; is_refused(&rt, no_key, "public key error: Memory"));
+    let unsigned: Result<()> = Err(Error::Signature(SignError::Memory));
+    assert!(rt; is_refused(&rt, unsigned, "signature error: Memory"));
     let unnamed = Reasons::from_bits_retain(512);
-    let mut certificate = certificate(&rt)?;
-    let added = certificate.add_extension(rt.alloc(), (ECHO, false, &unnamed));
+    let mut bare = certificate(&rt, true)?;
+    let added = bare.add_extension(rt.alloc(), (ECHO, false, &unnamed));
     assert!(rt; is_refused(&rt, added, "ASN.1 error: Value"));
     let mut request = request(&rt)?;
     let added = request.add_extension(rt.alloc(), (ECHO, false, &unnamed));
@@ -178,6 +182,8 @@ fn refusals(rt: HostRuntime) -> std::result::Result<(), Fail> {
     assert!(rt; is_refused(&rt, added, "ASN.1 error: SetDuplicate"));
     assert!(rt; is_refused(&rt, list(&rt, LAST + 1), "ASN.1 error: Value"));
     assert!(rt; is_refused(&rt, server(&rt), "unsupported certificate kind"));
+    let refused = certificate(&rt, false);
+    assert!(rt; is_built(&rt, refused, &ABC, false, "ASN.1 error: Failed"));
     Ok(())
 }
 
@@ -187,12 +193,4 @@ fn modules(rt: HostRuntime) {
     assert!(rt; is_refused(&rt, device(&rt), ""));
     assert!(rt; tcgtpm::TCG_SV_TPM_12.as_bytes() == b"\x67\x81\x05\x01\x00".as_slice());
     assert!(rt; tcgtpm::TCG_SV_TPM_20.as_bytes() == b"\x67\x81\x05\x01\x02".as_slice());
-}
-
-#[test]
-fn signers_without_memory(rt: HostRuntime) {
-    let key: Result<()> = Err(Error::PublicKey(KeyError::Memory));
-    let signature: Result<()> = Err(Error::Signature(SignError::Memory));
-    assert!(rt; is_refused(&rt, key, "public key error: Memory"));
-    assert!(rt; is_refused(&rt, signature, "signature error: Memory"));
 }

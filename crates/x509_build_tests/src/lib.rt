@@ -8,6 +8,8 @@ mod calls;
 #[cfg(test)]
 mod names;
 #[cfg(test)]
+mod profiles;
+#[cfg(test)]
 mod signers;
 #[cfg(test)]
 mod source;
