@@ -2,27 +2,13 @@
 #![tactic(auto)]
 
 #[cfg(test)]
-mod authorities;
-#[cfg(test)]
-mod building;
+mod builders;
 #[cfg(test)]
 mod calls;
 #[cfg(test)]
-mod certificates;
-#[cfg(test)]
-mod devices;
-#[cfg(test)]
-mod lists;
-#[cfg(test)]
 mod names;
 #[cfg(test)]
-mod paths;
-#[cfg(test)]
 mod profiles;
-#[cfg(test)]
-mod requests;
-#[cfg(test)]
-mod servers;
 #[cfg(test)]
 mod signers;
 #[cfg(test)]

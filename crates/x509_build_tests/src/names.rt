@@ -1,9 +1,8 @@
-//! Names and their order.
+//! Rules for names.
 
 use crate::calls::is_refused;
 use std::test::*;
-use x509_build::Result;
-use x509_build::profile::cabf::{Root, check_names_encoding};
+use x509_build::profile::cabf::{ca_certificate_naming, check_names_encoding};
 use x509_name::name::Name;
 
 /// Each type of the order, in it.
@@ -17,50 +16,32 @@ const SHARED: &str =
 
 const MISSING: &str = "Not all required elements were specified";
 
-const NO_CN: &str = "Non-ordered attribute or invalid attribute found (oid=2.5.4.3)";
-
 const NO_C: &str = "Non-ordered attribute or invalid attribute found (oid=2.5.4.6)";
-
-const NO_OU: &str = "Non-ordered attribute or invalid attribute found (oid=2.5.4.11)";
 
 const NO_DC: &str =
     "Non-ordered attribute or invalid attribute found (oid=0.9.2342.19200300.100.1.25)";
 
-fn check(rt: &HostRuntime, name: &str, multiple_allowed: bool) -> Result<()> {
-    let name = Name::from_str(rt.alloc(), name)?;
-    check_names_encoding(&name, multiple_allowed)
-}
-
+/// Of any certificate (Baseline Requirements 7.1.4.1), and of an authority (7.1.2.10.2).
 #[test]
-fn orders(rt: HostRuntime) {
-    let answers = [
-        is_refused(&rt, check(&rt, "", false), ""),
-        is_refused(&rt, check(&rt, ALL, false), ""),
-        is_refused(&rt, check(&rt, "serialNumber=1234,ST=CA,C=US", false), ""),
-        is_refused(&rt, check(&rt, "C=US,ST=CA", false), NO_C),
-        is_refused(&rt, check(&rt, "CN=a,CN=b", true), NO_CN),
-        is_refused(&rt, check(&rt, "CN=a,CN=b", false), REPEATED),
-        is_refused(&rt, check(&rt, "title=a,title=b", true), ""),
-        is_refused(&rt, check(&rt, "title=a,title=b", false), REPEATED),
-        is_refused(&rt, check(&rt, "C=US,O=a+CN=b", true), SHARED),
-    ];
-    assert!(rt; answers == [true; 9]);
-}
-
-fn check_root(rt: &HostRuntime, name: &str) -> Result<()> {
-    let _root = Root::new(false, Name::from_str(rt.alloc(), name)?)?;
+fn orders(rt: HostRuntime) -> Result<(), Fail> {
+    for (text, multiple_allowed, refusal) in [
+        (ALL, false, ""),
+        ("C=US,ST=CA", false, NO_C),
+        ("title=a,title=b", true, ""),
+        ("title=a,title=b", false, REPEATED),
+        ("C=US,O=a+CN=b", true, SHARED),
+    ] {
+        let name = Name::from_str(rt.alloc(), text)?;
+        assert!(rt; is_refused(&rt, check_names_encoding(&name, multiple_allowed), refusal));
+    }
+    for (text, refusal) in [
+        ("CN=R,O=T,C=US", ""),
+        ("CN=R,C=US", MISSING),
+        ("CN=R,O=T,C=US,DC=x", NO_DC),
+        ("C=US,CN=R,O=T", NO_C),
+    ] {
+        let name = Name::from_str(rt.alloc(), text)?;
+        assert!(rt; is_refused(&rt, ca_certificate_naming(&name), refusal));
+    }
     Ok(())
-}
-
-#[test]
-fn of_roots(rt: HostRuntime) {
-    let answers = [
-        is_refused(&rt, check_root(&rt, "CN=R,O=T,C=US"), ""),
-        is_refused(&rt, check_root(&rt, "CN=R,C=US"), MISSING),
-        is_refused(&rt, check_root(&rt, ""), MISSING),
-        is_refused(&rt, check_root(&rt, "CN=R,OU=U,O=T,C=US"), NO_OU),
-        is_refused(&rt, check_root(&rt, "CN=R,O=T,C=US,DC=x"), NO_DC),
-        is_refused(&rt, check_root(&rt, "C=US,CN=R,O=T"), NO_C),
-    ];
-    assert!(rt; answers == [true; 6]);
 }

@@ -10,34 +10,14 @@ use x509_prim::BitString;
 /// 1.2.3.4.
 pub(crate) const ECHO: ObjectIdentifier = oid!(0x2A, 3, 4);
 
-/// What a signer refuses.
+/// Signs with the message as bits, under the algorithm 1.2.3.4 and the key `abc`, or refuses one of these calls.
 #[derive(Clone, Copy)]
-pub(crate) enum Refused {
-    Nothing,
-    Algorithm,
-    Key,
-    Message,
+pub(crate) enum Echo {
+    Signs,
+    RefusesAlgorithm,
+    RefusesKey,
+    RefusesMessage,
 }
-
-/// Signs with the message as bits, under the algorithm 1.2.3.4. Its key is `ab` and one octet more. It may refuse each call,
-/// and refuses that one.
-#[derive(Clone, Copy)]
-pub(crate) struct Echo {
-    pub(crate) refuses: Refused,
-    pub(crate) last: u8,
-}
-
-/// The signer with the key `abc`, which refuses nothing.
-pub(crate) const ABC: Echo = Echo {
-    refuses: Refused::Nothing,
-    last: b'c',
-};
-
-/// The signer with the key `abd`, which refuses nothing.
-pub(crate) const ABD: Echo = Echo {
-    refuses: Refused::Nothing,
-    last: b'd',
-};
 
 impl Signer for Echo {
     ghost use Rattle.std.specs.Prelude.{◌≡◌, [], ◌∷◌, None};
@@ -47,7 +27,7 @@ impl Signer for Echo {
 
     ghost key_of = { λ signer. record {
       algorithm = record { oid = 0x2A ∷ 3 ∷ 4 ∷ []; parameters = None };
-      subject_public_key = parts_of 0 (97 ∷ 98 ∷ signer.last ∷ []);
+      subject_public_key = parts_of 0 (97 ∷ 98 ∷ 99 ∷ []);
     } };
 
     ghost signs = { λ signer message bits. bits ≡ parts_of 0 message };
@@ -61,7 +41,7 @@ impl Signer for Echo {
     ghost may_refuse_message = { λ signer message. Unit {0} };
 
     fn algorithm(&self, _alloc: Global) -> Result<AlgorithmIdentifier, KeyError> {
-        if let Refused::Algorithm = self.refuses {
+        if let Echo::RefusesAlgorithm = self {
             return Err(KeyError::Refused);
         }
         Ok(AlgorithmIdentifier {
@@ -71,10 +51,10 @@ impl Signer for Echo {
     }
 
     fn public_key(&self, alloc: Global) -> Result<SubjectPublicKeyInfo, KeyError> {
-        if let Refused::Key = self.refuses {
+        if let Echo::RefusesKey = self {
             return Err(KeyError::Refused);
         }
-        match BitString::from_bytes(alloc, &[b'a', b'b', self.last]) {
+        match BitString::from_bytes(alloc, &[b'a', b'b', b'c']) {
             Ok(subject_public_key) => Ok(SubjectPublicKeyInfo {
                 algorithm: AlgorithmIdentifier {
                     oid: ECHO,
@@ -87,7 +67,7 @@ impl Signer for Echo {
     }
 
     fn try_sign(&self, alloc: Global, message: &[u8]) -> Result<BitString, SignError> {
-        if let Refused::Message = self.refuses {
+        if let Echo::RefusesMessage = self {
             return Err(SignError::Refused);
         }
         match BitString::from_bytes(alloc, message) {

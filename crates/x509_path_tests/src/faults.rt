@@ -38,20 +38,12 @@ fn copies(alloc: Global, inputs: &[&[u8]]) -> Result<Vec<Vec<u8>>, AllocError> {
     Ok(copies)
 }
 
-/// A second of the validity of each certificate here, and the first second behind it.
-const IN_DATE: &str = "2020-01-01T00:00:00Z";
-
-const OUT_OF_DATE: &str = "2030-12-31T08:30:01Z";
-
-/// What is answered at that time of these certificates, under the name and the key of [`LEAF`].
-fn checked(alloc: Global, path: &[&[u8]], moment: &str) -> Option<Result<(), PathFault>> {
+/// What [`check_path`] answers at that time of these certificates, under the name and the key of [`LEAF`].
+fn checked(alloc: Global, path: &[&[u8]], moment: DateTime) -> Option<Result<(), PathFault>> {
     let Ok(certificate) = Certificate::from_der(alloc, LEAF) else {
         return None;
     };
     let Ok(anchor) = Anchor::from_certificate(alloc, &certificate) else {
-        return None;
-    };
-    let Ok(moment) = DateTime::from_str(moment) else {
         return None;
     };
     match copies(alloc, path) {
@@ -60,15 +52,7 @@ fn checked(alloc: Global, path: &[&[u8]], moment: &str) -> Option<Result<(), Pat
     }
 }
 
-/// What is asked at that time.
-fn asked<'a>(moment: &str) -> PathSettings<'a> {
-    match DateTime::from_str(moment) {
-        Ok(moment) => PathSettings::new(moment),
-        Err(_) => PathSettings::new(DateTime::INFINITY),
-    }
-}
-
-/// What is answered where the path is validated.
+/// What [`validate_path`] answers where that is asked.
 fn validated<'a>(
     alloc: Global,
     path: &[&'a [u8]],
@@ -86,27 +70,8 @@ const ANCHOR: AnchorRef<'static> = AnchorRef {
     key: b"\x30\x0A\x30\x05\x06\x03\x2A\x03\x04\x03\x01\x00",
 };
 
-/// Whether nothing is wrong with the path, in date.
-fn holds(alloc: Global, path: &[&[u8]]) -> bool {
-    checked(alloc, path, IN_DATE) == Some(Ok(())) && validated(alloc, path, &asked(IN_DATE)).is_ok()
-}
-
-/// Whether these are the faults at the place, in date.
-fn has(
-    alloc: Global,
-    path: &[&[u8]],
-    place: usize,
-    one: PathReason,
-    other: ValidationReason,
-) -> bool {
-    let fault = PathFault::At { place, reason: one };
-    let validation_fault = ValidationFault::At {
-        place,
-        reason: other,
-    };
-    checked(alloc, path, IN_DATE) == Some(Err(fault))
-        && validated(alloc, path, &asked(IN_DATE)) == Err(validation_fault)
-}
+/// No certificate, and no constraints on names.
+const NULL: &[u8] = &[0x05, 0x00];
 
 /// Without extensions. Its name and that of its issuer are empty, as those of all certificates here but those of [`LIMITED`]'s path, and its bits
 /// are the signed part.
@@ -155,25 +120,6 @@ const CRITICAL: &[u8] =
       \x17\x0D301231083000Z\x30\x00\x30\x0A\x30\x05\x06\x03\x2A\x03\x04\x03\x01\x00\xA3\x10\x30\x0E\x30\x0C\
       \x06\x03\x55\x1D\x0E\x01\x01\xFF\x04\x02\x04\x00";
 
-/// A critical BasicConstraints that is a NULL.
-const UNREADABLE: &[u8] =
-    b"\x30\x81\xB0\x30\x51\xA0\x03\x02\x01\x02\x02\x01\x01\x30\x05\x06\x03\x2A\x03\x04\x30\x00\x30\x1E\
-      \x17\x0D100101083000Z\x17\x0D301231083000Z\x30\x00\x30\x0A\x30\x05\x06\x03\x2A\x03\x04\x03\x01\x00\xA3\x10\
-      \x30\x0E\x30\x0C\x06\x03\x55\x1D\x13\x01\x01\xFF\x04\x02\x05\x00\x30\x05\x06\x03\x2A\x03\x04\x03\x54\x00\x30\x51\
-      \xA0\x03\x02\x01\x02\x02\x01\x01\x30\x05\x06\x03\x2A\x03\x04\x30\x00\x30\x1E\x17\x0D100101083000Z\
-      \x17\x0D301231083000Z\x30\x00\x30\x0A\x30\x05\x06\x03\x2A\x03\x04\x03\x01\x00\xA3\x10\x30\x0E\x30\x0C\
-      \x06\x03\x55\x1D\x13\x01\x01\xFF\x04\x02\x05\x00";
-
-/// A critical extension 2.5.29.14 twice.
-const REPEATED_AND_CRITICAL: &[u8] =
-    b"\x30\x81\xCC\x30\x5F\xA0\x03\x02\x01\x02\x02\x01\x01\x30\x05\x06\x03\x2A\x03\x04\x30\x00\x30\x1E\
-      \x17\x0D100101083000Z\x17\x0D301231083000Z\x30\x00\x30\x0A\x30\x05\x06\x03\x2A\x03\x04\x03\x01\x00\xA3\x1E\
-      \x30\x1C\x30\x0C\x06\x03\x55\x1D\x0E\x01\x01\xFF\x04\x02\x04\x00\x30\x0C\x06\x03\x55\x1D\x0E\x01\x01\xFF\
-      \x04\x02\x04\x00\x30\x05\x06\x03\x2A\x03\x04\x03\x62\x00\x30\x5F\xA0\x03\x02\x01\x02\x02\x01\x01\x30\x05\
-      \x06\x03\x2A\x03\x04\x30\x00\x30\x1E\x17\x0D100101083000Z\x17\x0D301231083000Z\x30\x00\x30\x0A\x30\x05\
-      \x06\x03\x2A\x03\x04\x03\x01\x00\xA3\x1E\x30\x1C\x30\x0C\x06\x03\x55\x1D\x0E\x01\x01\xFF\x04\x02\x04\x00\x30\x0C\
-      \x06\x03\x55\x1D\x0E\x01\x01\xFF\x04\x02\x04\x00";
-
 /// A certification authority's, whose KeyUsage is digitalSignature alone.
 const NO_KEY_CERT_SIGN: &[u8] =
     b"\x30\x81\xD6\x30\x64\xA0\x03\x02\x01\x02\x02\x01\x01\x30\x05\x06\x03\x2A\x03\x04\x30\x00\x30\x1E\
@@ -215,14 +161,6 @@ const BELOW_LIMITED: &[u8] =
       \x30\x0A\x30\x05\x06\x03\x2A\x03\x04\x03\x01\x00\xA3\x13\x30\x11\x30\x0F\x06\x03\x55\x1D\x13\x01\x01\xFF\
       \x04\x05\x30\x03\x01\x01\xFF";
 
-/// One that `CN=a` issued.
-const LEAF_OF_LIMITED: &[u8] =
-    b"\x30\x81\xA4\x30\x4B\xA0\x03\x02\x01\x02\x02\x01\x01\x30\x05\x06\x03\x2A\x03\x04\x30\x0C\x31\x0A\x30\x08\
-      \x06\x03\x55\x04\x03\x0C\x01a\x30\x1E\x17\x0D100101083000Z\x17\x0D301231083000Z\x30\x00\x30\x0A\x30\x05\
-      \x06\x03\x2A\x03\x04\x03\x01\x00\x30\x05\x06\x03\x2A\x03\x04\x03\x4E\x00\x30\x4B\xA0\x03\x02\x01\x02\x02\x01\x01\
-      \x30\x05\x06\x03\x2A\x03\x04\x30\x0C\x31\x0A\x30\x08\x06\x03\x55\x04\x03\x0C\x01a\x30\x1E\x17\x0D100101083000Z\
-      \x17\x0D301231083000Z\x30\x00\x30\x0A\x30\x05\x06\x03\x2A\x03\x04\x03\x01\x00";
-
 /// One that `CN=b` issued.
 const LEAF_BELOW: &[u8] =
     b"\x30\x81\xA4\x30\x4B\xA0\x03\x02\x01\x02\x02\x01\x01\x30\x05\x06\x03\x2A\x03\x04\x30\x0C\x31\x0A\x30\x08\
@@ -231,170 +169,116 @@ const LEAF_BELOW: &[u8] =
       \x30\x05\x06\x03\x2A\x03\x04\x30\x0C\x31\x0A\x30\x08\x06\x03\x55\x04\x03\x0C\x01b\x30\x1E\x17\x0D100101083000Z\
       \x17\x0D301231083000Z\x30\x00\x30\x0A\x30\x05\x06\x03\x2A\x03\x04\x03\x01\x00";
 
-#[test]
-fn paths_that_hold(rt: HostRuntime) {
-    let alloc = rt.alloc();
-    let answers = [
-        holds(alloc, &[LEAF]),
-        holds(alloc, &[AUTHORITY, AUTHORITY, LEAF]),
-        holds(alloc, &[LIMITED, LEAF_OF_LIMITED]),
-        holds(alloc, &[NO_KEY_CERT_SIGN]),
-    ];
-    assert!(rt; answers == [true; 4]);
+/// A path with a fault, by both.
+struct Case {
+    path: &'static [&'static [u8]],
+    place: usize,
+    reason: PathReason,
+    validation_reason: ValidationReason,
 }
 
-/// No path; and the second behind the validity.
+/// One with each fault but that of the moment, in the order in which they are told.
+static CASES: [Case; 9] = [
+    Case {
+        path: &[NULL],
+        place: 0,
+        reason: PathReason::Decode,
+        validation_reason: ValidationReason::Decode,
+    },
+    Case {
+        path: &[TWO_ALGORITHMS],
+        place: 0,
+        reason: PathReason::Algorithm,
+        validation_reason: ValidationReason::Algorithm,
+    },
+    Case {
+        path: &[OTHER_ISSUER],
+        place: 0,
+        reason: PathReason::Issuer,
+        validation_reason: ValidationReason::Issuer,
+    },
+    Case {
+        path: &[UNSIGNED],
+        place: 0,
+        reason: PathReason::Signature,
+        validation_reason: ValidationReason::Signature,
+    },
+    Case {
+        path: &[REPEATED],
+        place: 0,
+        reason: PathReason::Repeated,
+        validation_reason: ValidationReason::Repeated,
+    },
+    Case {
+        path: &[CRITICAL],
+        place: 0,
+        reason: PathReason::Critical,
+        validation_reason: ValidationReason::Critical,
+    },
+    Case {
+        path: &[AUTHORITY, LEAF, LEAF],
+        place: 1,
+        reason: PathReason::NotCa,
+        validation_reason: ValidationReason::NotCa,
+    },
+    Case {
+        path: &[NO_KEY_CERT_SIGN, LEAF],
+        place: 0,
+        reason: PathReason::KeyUsage,
+        validation_reason: ValidationReason::KeyUsage,
+    },
+    Case {
+        path: &[LIMITED, BELOW_LIMITED, LEAF_BELOW],
+        place: 1,
+        reason: PathReason::PathLen,
+        validation_reason: ValidationReason::PathLen,
+    },
+];
+
 #[test]
-fn no_path(rt: HostRuntime) {
+fn each_fault(rt: HostRuntime) -> Result<(), Fail> {
+    let moment = DateTime::from_str("2020-01-01T00:00:00Z")?;
+    let settings = PathSettings::new(moment);
+    for case in &CASES {
+        let fault = PathFault::At {
+            place: case.place,
+            reason: case.reason,
+        };
+        let validation_fault = ValidationFault::At {
+            place: case.place,
+            reason: case.validation_reason,
+        };
+        assert!(rt; checked(rt.alloc(), case.path, moment) == Some(Err(fault)));
+        assert!(rt; validated(rt.alloc(), case.path, &settings) == Err(validation_fault));
+    }
+    Ok(())
+}
+
+/// A path that holds, and the second behind the validity; no path, and a NULL in the place of constraints on names.
+#[test]
+fn a_path_and_none(rt: HostRuntime) -> Result<(), Fail> {
     let alloc = rt.alloc();
-    let late = PathFault::At {
+    let moment = DateTime::from_str("2020-01-01T00:00:00Z")?;
+    let late = DateTime::from_str("2030-12-31T08:30:01Z")?;
+    let settings = PathSettings::new(moment);
+    let fault = PathFault::At {
         place: 0,
         reason: PathReason::Moment,
     };
-    let validation_late = ValidationFault::At {
+    let validation_fault = ValidationFault::At {
         place: 0,
         reason: ValidationReason::Moment,
     };
-    let answers = [
-        checked(alloc, &[], IN_DATE) == Some(Err(PathFault::Empty)),
-        validated(alloc, &[], &asked(IN_DATE)) == Err(ValidationFault::Empty),
-        checked(alloc, &[LEAF], OUT_OF_DATE) == Some(Err(late)),
-        validated(alloc, &[LEAF], &asked(OUT_OF_DATE)) == Err(validation_late),
-    ];
-    assert!(rt; answers == [true; 4]);
-}
-
-/// A NULL in the place of constraints on names; octets of no OID among the policies; and none of the purposes, where one is asked for.
-#[test]
-fn settings(rt: HostRuntime) {
-    let null: &[u8] = &[0x05, 0x00];
-    let none: &[u8] = &[0x55, 0x80];
+    assert!(rt; checked(alloc, &[AUTHORITY, LEAF], moment) == Some(Ok(())));
+    assert!(rt; validated(alloc, &[AUTHORITY, LEAF], &settings) == Ok(()));
+    assert!(rt; checked(alloc, &[LEAF], late) == Some(Err(fault)));
+    assert!(rt; validated(alloc, &[LEAF], &PathSettings::new(late)) == Err(validation_fault));
+    assert!(rt; checked(alloc, &[], moment) == Some(Err(PathFault::Empty)));
+    assert!(rt; validated(alloc, &[], &settings) == Err(ValidationFault::Empty));
     let constrained = PathSettings {
-        name_constraints: Some(null),
-        ..asked(IN_DATE)
+        name_constraints: Some(NULL),
+        ..PathSettings::new(moment)
     };
-    let policies = [none];
-    let under_policies = PathSettings {
-        user_initial_policy_set: Some(&policies),
-        ..asked(IN_DATE)
-    };
-    let for_nothing = PathSettings {
-        purposes: Some(&[]),
-        ..asked(IN_DATE)
-    };
-    let purpose = ValidationFault::At {
-        place: 0,
-        reason: ValidationReason::Purpose,
-    };
-    let answers = [
-        validated(rt.alloc(), &[LEAF], &constrained) == Err(ValidationFault::Initial),
-        validated(rt.alloc(), &[LEAF], &under_policies) == Err(ValidationFault::Initial),
-        validated(rt.alloc(), &[LEAF], &for_nothing) == Err(purpose),
-    ];
-    assert!(rt; answers == [true; 3]);
-}
-
-/// Of one certificate the first fault in order, of two that at the lower place.
-#[test]
-fn first_faults(rt: HostRuntime) {
-    let alloc = rt.alloc();
-    let null: &[u8] = &[0x05, 0x00];
-    let answers = [
-        has(
-            alloc,
-            &[null],
-            0,
-            PathReason::Decode,
-            ValidationReason::Decode,
-        ),
-        has(
-            alloc,
-            &[TWO_ALGORITHMS],
-            0,
-            PathReason::Algorithm,
-            ValidationReason::Algorithm,
-        ),
-        has(
-            alloc,
-            &[OTHER_ISSUER],
-            0,
-            PathReason::Issuer,
-            ValidationReason::Issuer,
-        ),
-        has(
-            alloc,
-            &[UNSIGNED],
-            0,
-            PathReason::Signature,
-            ValidationReason::Signature,
-        ),
-        has(
-            alloc,
-            &[REPEATED],
-            0,
-            PathReason::Repeated,
-            ValidationReason::Repeated,
-        ),
-        has(
-            alloc,
-            &[CRITICAL],
-            0,
-            PathReason::Critical,
-            ValidationReason::Critical,
-        ),
-        has(
-            alloc,
-            &[UNREADABLE],
-            0,
-            PathReason::Critical,
-            ValidationReason::Extension,
-        ),
-        has(
-            alloc,
-            &[NO_KEY_CERT_SIGN, LEAF],
-            0,
-            PathReason::KeyUsage,
-            ValidationReason::KeyUsage,
-        ),
-        has(
-            alloc,
-            &[AUTHORITY, LEAF, LEAF],
-            1,
-            PathReason::NotCa,
-            ValidationReason::NotCa,
-        ),
-        has(
-            alloc,
-            &[LIMITED, BELOW_LIMITED, LEAF_BELOW],
-            1,
-            PathReason::PathLen,
-            ValidationReason::PathLen,
-        ),
-        has(
-            alloc,
-            &[REPEATED_AND_CRITICAL],
-            0,
-            PathReason::Repeated,
-            ValidationReason::Repeated,
-        ),
-        has(
-            alloc,
-            &[AUTHORITY, CRITICAL, TWO_ALGORITHMS],
-            1,
-            PathReason::Critical,
-            ValidationReason::Critical,
-        ),
-    ];
-    assert!(rt; answers == [true; 12]);
-}
-
-#[test]
-fn printed(rt: HostRuntime) -> Result<(), Fail> {
-    let fault = PathFault::At {
-        place: 12,
-        reason: PathReason::PathLen,
-    };
-    assert!(rt; format!(in rt.alloc(); "{fault}")?.as_str() == "12 PathLen");
-    assert!(rt; format!(in rt.alloc(); "{}", PathFault::Empty)?.as_str() == "Empty");
+    assert!(rt; validated(alloc, &[LEAF], &constrained) == Err(ValidationFault::Initial));
     Ok(())
 }

@@ -6,7 +6,7 @@ use std::test::*;
 use x509_base::{DateTime, Rfc5280};
 use x509_check::{CertificateRef, CrlRef};
 use x509_path::{AnchorRef, AnySignature};
-use x509_peer::{EmailAddress, ServerName};
+use x509_peer::ServerName;
 use x509_revocation::{RevocationSettings, SignedCrl};
 use x509_trust::{
     PeerName, RevocationCheck, RevocationScope, VerifyError, VerifySettings, verify_peer,
@@ -106,28 +106,6 @@ const REVOKES_LEAF: &[u8] = &[
     0x30, 0x05, 0x06, 0x03, 0x2A, 0x03, 0x04, 0x03, 0x01, 0x00,
 ];
 
-/// What is answered, in short: certificates by their serial numbers, which have one digit.
-#[derive(Clone, Copy, Debug, PartialEq, Eq)]
-enum Answer {
-    /// A path of so many certificates, of which the first has this number.
-    Found { count: usize, first: u8 },
-
-    /// It is that of another peer.
-    OtherName,
-
-    /// The one with this number isn't let through.
-    Refused(u8),
-
-    /// More aren't let through than may be left out.
-    TooMany,
-
-    /// Not a certificate.
-    Decode,
-
-    /// Another answer.
-    Other,
-}
-
 /// The serial number of the certificate, of one octet.
 fn serial_of(bytes: &[u8]) -> u8 {
     match CertificateRef::<Rfc5280>::from_der(bytes) {
@@ -139,214 +117,186 @@ fn serial_of(bytes: &[u8]) -> u8 {
     }
 }
 
-/// In short.
-fn answer_of(error: &VerifyError<'_>) -> Answer {
-    match error {
-        VerifyError::OtherName => Answer::OtherName,
-        VerifyError::Revocation(refused) => Answer::Refused(serial_of(refused.certificate)),
-        VerifyError::TooManyRefused => Answer::TooMany,
-        VerifyError::Path(FindError::Decode) => Answer::Decode,
-        VerifyError::Path(_) => Answer::Other,
-    }
-}
-
-/// What is answered of the certificate, over these candidates and under these settings.
-fn ask<'x>(
-    alloc: Global,
-    leaf: &'x [u8],
-    candidates: &[&'x [u8]],
-    anchor: AnchorRef<'x>,
-    settings: &VerifySettings<'_, '_, '_, '_, 'x>,
-) -> Answer {
-    let trusted = Trusted::new(anchor);
-    let Ok(anchors) = Anchors::new(alloc, &[trusted]) else {
-        return Answer::Other;
-    };
-    let Ok(pool) = Pool::new(alloc, candidates) else {
-        return Answer::Other;
-    };
-    match verify_peer(alloc, &anchors, &pool, leaf, settings, &AnySignature) {
-        Ok(found) => Answer::Found {
-            count: found.path.len(),
-            first: match found.path.as_slice() {
-                [first, ..] => serial_of(first),
-                [] => 0,
-            },
-        },
-        Err(error) => answer_of(&error),
-    }
-}
-
-/// What is answered of the bytes in 2030, where no name is asked for.
-fn ask_any(alloc: Global, leaf: &[u8]) -> Answer {
-    let Ok(moment) = DateTime::from_str("2030-01-01T00:00:00Z") else {
-        return Answer::Other;
-    };
-    let settings = VerifySettings {
-        path: PathSettings::new(moment),
-        limits: SearchLimits::default(),
-        name: None,
-        revocation: None,
-    };
-    ask(alloc, leaf, &[TWIN, FIRST], under(NAME), &settings)
-}
-
-/// What is answered of the certificate as that of a server.
-fn ask_server<'x>(alloc: Global, leaf: &'x [u8], host: &'x str) -> Answer {
-    let Ok(moment) = DateTime::from_str("2030-01-01T00:00:00Z") else {
-        return Answer::Other;
-    };
-    let Ok(name) = ServerName::parse(host) else {
-        return Answer::Other;
-    };
-    let settings = VerifySettings {
-        path: PathSettings::new(moment),
-        limits: SearchLimits::default(),
-        name: Some(PeerName::Server(name)),
-        revocation: None,
-    };
-    ask(alloc, leaf, &[TWIN, FIRST], under(NAME), &settings)
-}
-
-/// What is answered of the certificate as that of a mailbox.
-fn ask_email<'x>(alloc: Global, leaf: &'x [u8], mailbox: &'x str) -> Answer {
-    let Ok(moment) = DateTime::from_str("2030-01-01T00:00:00Z") else {
-        return Answer::Other;
-    };
-    let Ok(address) = EmailAddress::parse(mailbox) else {
-        return Answer::Other;
-    };
-    let settings = VerifySettings {
-        path: PathSettings::new(moment),
-        limits: SearchLimits::default(),
-        name: Some(PeerName::Email(address)),
-        revocation: None,
-    };
-    ask(alloc, leaf, &[TWIN, FIRST], under(NAME), &settings)
-}
-
 /// That the key signs, under the name.
 fn under(name: &[u8]) -> AnchorRef<'_> {
     AnchorRef { name, key: KEY }
 }
 
-/// What is answered of the certificate where these CRLs are at hand, each with its signer.
-fn ask_with<'x>(
-    alloc: Global,
-    leaf: &'x [u8],
-    crls: [&'x [u8]; 2],
-    signers: [AnchorRef<'x>; 2],
-    scope: RevocationScope,
-    allows_undetermined: bool,
-    max_refused: u8,
-) -> Answer {
-    let Ok(moment) = DateTime::from_str("2030-01-01T00:00:00Z") else {
-        return Answer::Other;
+/// What is answered of [`LEAF`], in short, and of which certificate it is told: the topmost of a path, or one that isn't let through.
+fn ask(alloc: Global, settings: &VerifySettings<'_, '_, '_, '_, 'static>) -> (&'static str, u8) {
+    let Ok(anchors) = Anchors::new(alloc, &[Trusted::new(under(NAME))]) else {
+        return ("no memory", 0);
     };
-    let Ok(first) = CrlRef::<Rfc5280>::from_der(crls[0]) else {
-        return Answer::Other;
+    let Ok(pool) = Pool::new(alloc, &[TWIN, FIRST]) else {
+        return ("no memory", 0);
     };
-    let Ok(second) = CrlRef::<Rfc5280>::from_der(crls[1]) else {
-        return Answer::Other;
-    };
-    let given = [
-        SignedCrl {
-            crl: &first,
-            signer: signers[0],
+    match verify_peer(alloc, &anchors, &pool, LEAF, settings, &AnySignature) {
+        Ok(found) => match found.path.as_slice() {
+            [first, _] => ("found", serial_of(first)),
+            _ => ("another path", 0),
         },
-        SignedCrl {
-            crl: &second,
-            signer: signers[1],
-        },
-    ];
-    let settings = VerifySettings {
-        path: PathSettings::new(moment),
-        limits: SearchLimits::default(),
-        name: None,
-        revocation: Some(RevocationCheck {
-            crls: &given,
-            settings: RevocationSettings {
-                moment,
-                without_next_update: false,
-                use_deltas: false,
+        Err(VerifyError::OtherName) => ("another name", 0),
+        Err(VerifyError::Revocation(refused)) => ("refused", serial_of(refused.certificate)),
+        Err(VerifyError::TooManyRefused) => ("too many", 0),
+        Err(VerifyError::Path(FindError::Refused(_))) => ("no path", 0),
+        Err(VerifyError::Path(FindError::Limit)) => ("limit", 0),
+        Err(VerifyError::Path(_)) => ("another refusal", 0),
+    }
+}
+
+/// What is asked of a server without CRLs, and what is answered.
+struct Peer {
+    host: &'static str,
+    initial_explicit_policy: bool,
+    max_signatures: u32,
+    answer: (&'static str, u8),
+}
+
+/// One that it names and another one; no path under a policy; and more signatures than may be verified.
+static PEERS: [Peer; 4] = [
+    Peer {
+        host: "A.example.org.",
+        initial_explicit_policy: false,
+        max_signatures: 2,
+        answer: ("found", 2),
+    },
+    Peer {
+        host: "b.example.org",
+        initial_explicit_policy: false,
+        max_signatures: 2,
+        answer: ("another name", 0),
+    },
+    Peer {
+        host: "a.example.org",
+        initial_explicit_policy: true,
+        max_signatures: 2,
+        answer: ("no path", 0),
+    },
+    Peer {
+        host: "a.example.org",
+        initial_explicit_policy: false,
+        max_signatures: 1,
+        answer: ("limit", 0),
+    },
+];
+
+#[test]
+fn without_crls(rt: HostRuntime) -> Result<(), Fail> {
+    let moment = DateTime::from_str("2030-01-01T00:00:00Z")?;
+    for peer in &PEERS {
+        let settings = VerifySettings {
+            path: PathSettings {
+                initial_explicit_policy: peer.initial_explicit_policy,
+                ..PathSettings::new(moment)
             },
-            scope,
-            allows_undetermined,
-            max_refused,
-        }),
-    };
-    ask(alloc, leaf, &[TWIN, FIRST], under(NAME), &settings)
+            limits: SearchLimits {
+                max_signatures: peer.max_signatures,
+                ..SearchLimits::default()
+            },
+            name: Some(PeerName::Server(ServerName::parse(peer.host)?)),
+            revocation: None,
+        };
+        assert!(rt; ask(rt.alloc(), &settings) == peer.answer);
+    }
+    Ok(())
 }
 
-/// Asks for the leaf under two CRLs, the first of what is trusted and the second of CN=I.
-fn ask_by(
-    alloc: Global,
-    crls: [&[u8]; 2],
+/// What is asked beside a CRL of CN=R and one of CN=I, and what is answered.
+struct Revoking {
+    lists: [&'static [u8]; 2],
     scope: RevocationScope,
     allows_undetermined: bool,
     max_refused: u8,
-) -> Answer {
-    ask_with(
-        alloc,
-        LEAF,
-        crls,
-        [under(NAME), under(ISSUER)],
-        scope,
-        allows_undetermined,
-        max_refused,
-    )
+    answer: (&'static str, u8),
 }
 
-/// A server and a mailbox that it names, others, and none.
-#[test]
-fn names(rt: HostRuntime) {
-    let found = Answer::Found { count: 2, first: 2 };
-    assert_eq!(rt; ask_server(rt.alloc(), LEAF, "A.example.org."), found);
-    assert_eq!(rt;
-        ask_server(rt.alloc(), LEAF, "b.example.org"),
-        Answer::OtherName
-    );
-    assert_eq!(rt; ask_email(rt.alloc(), LEAF, "m@example.org"), found);
-    assert_eq!(rt;
-        ask_email(rt.alloc(), LEAF, "n@example.org"),
-        Answer::OtherName
-    );
-    assert_eq!(rt; ask_any(rt.alloc(), LEAF), found);
-    assert_eq!(rt; ask_any(rt.alloc(), &[]), Answer::Decode);
-}
+/// Where a candidate is revoked the path goes over another one, unless that is revoked too or none may be left out. The certificate itself:
+/// revoked, not revoked whatever those above are, and not known to be.
+static REVOKING: [Revoking; 7] = [
+    Revoking {
+        lists: [REVOKES_FIRST, REVOKES_NONE],
+        scope: RevocationScope::Path,
+        allows_undetermined: false,
+        max_refused: 1,
+        answer: ("found", 7),
+    },
+    Revoking {
+        lists: [REVOKES_BOTH, REVOKES_NONE],
+        scope: RevocationScope::Path,
+        allows_undetermined: false,
+        max_refused: 2,
+        answer: ("refused", 2),
+    },
+    Revoking {
+        lists: [REVOKES_BOTH, REVOKES_NONE],
+        scope: RevocationScope::Path,
+        allows_undetermined: false,
+        max_refused: 1,
+        answer: ("too many", 0),
+    },
+    Revoking {
+        lists: [REVOKES_BOTH, REVOKES_LEAF],
+        scope: RevocationScope::Leaf,
+        allows_undetermined: true,
+        max_refused: 0,
+        answer: ("refused", 9),
+    },
+    Revoking {
+        lists: [REVOKES_BOTH, REVOKES_NONE],
+        scope: RevocationScope::Leaf,
+        allows_undetermined: false,
+        max_refused: 0,
+        answer: ("found", 2),
+    },
+    Revoking {
+        lists: [REVOKES_BOTH, REVOKES_BOTH],
+        scope: RevocationScope::Leaf,
+        allows_undetermined: false,
+        max_refused: 0,
+        answer: ("refused", 9),
+    },
+    Revoking {
+        lists: [REVOKES_BOTH, REVOKES_BOTH],
+        scope: RevocationScope::Leaf,
+        allows_undetermined: true,
+        max_refused: 0,
+        answer: ("found", 2),
+    },
+];
 
-/// Where a candidate is revoked the path goes over another one, unless that is revoked too or none may be left out.
 #[test]
-fn candidates(rt: HostRuntime) {
-    let path = RevocationScope::Path;
-    let one = [REVOKES_FIRST, REVOKES_NONE];
-    let both = [REVOKES_BOTH, REVOKES_NONE];
-    let twin = Answer::Found { count: 2, first: 7 };
-    assert_eq!(rt; ask_by(rt.alloc(), one, path, false, 1), twin);
-    assert_eq!(rt;
-        ask_by(rt.alloc(), both, path, false, 2),
-        Answer::Refused(2)
-    );
-    assert_eq!(rt; ask_by(rt.alloc(), both, path, false, 1), Answer::TooMany);
-    assert_eq!(rt; ask_by(rt.alloc(), one, path, false, 0), Answer::TooMany);
-}
-
-/// The certificate itself: revoked, not revoked whatever those above are, and not known to be.
-#[test]
-fn the_certificate_itself(rt: HostRuntime) {
-    let leaf = RevocationScope::Leaf;
-    let found = Answer::Found { count: 2, first: 2 };
-    let revoked = [REVOKES_FIRST, REVOKES_LEAF];
-    let unrevoked = [REVOKES_FIRST, REVOKES_NONE];
-    let unknown = [REVOKES_FIRST, REVOKES_FIRST];
-    assert_eq!(rt;
-        ask_by(rt.alloc(), revoked, leaf, true, 0),
-        Answer::Refused(9)
-    );
-    assert_eq!(rt; ask_by(rt.alloc(), unrevoked, leaf, false, 0), found);
-    assert_eq!(rt;
-        ask_by(rt.alloc(), unknown, leaf, false, 0),
-        Answer::Refused(9)
-    );
-    assert_eq!(rt; ask_by(rt.alloc(), unknown, leaf, true, 0), found);
+fn with_crls(rt: HostRuntime) -> Result<(), Fail> {
+    let moment = DateTime::from_str("2030-01-01T00:00:00Z")?;
+    for case in &REVOKING {
+        let first = CrlRef::<Rfc5280>::from_der(case.lists[0])?;
+        let second = CrlRef::<Rfc5280>::from_der(case.lists[1])?;
+        let crls = [
+            SignedCrl {
+                crl: &first,
+                signer: under(NAME),
+            },
+            SignedCrl {
+                crl: &second,
+                signer: under(ISSUER),
+            },
+        ];
+        let settings = VerifySettings {
+            path: PathSettings::new(moment),
+            limits: SearchLimits::default(),
+            name: None,
+            revocation: Some(RevocationCheck {
+                crls: &crls,
+                settings: RevocationSettings {
+                    moment,
+                    without_next_update: false,
+                    use_deltas: false,
+                },
+                scope: case.scope,
+                allows_undetermined: case.allows_undetermined,
+                max_refused: case.max_refused,
+            }),
+        };
+        assert!(rt; ask(rt.alloc(), &settings) == case.answer);
+    }
+    Ok(())
 }

@@ -1,10 +1,8 @@
-//! Long paths: one whose valid policy tree has some 2^30 nodes, and one that is refused.
+//! A path whose valid policy tree has some 2^30 nodes.
 
 use std::alloc::{AllocError, Global};
 use std::test::*;
-use x509_policy::{
-    MappingView, PolicyOutcome, PolicyReason, PolicySettings, PolicyView, check_policies,
-};
+use x509_policy::{MappingView, PolicyOutcome, PolicySettings, PolicyView, check_policies};
 
 /// A hundred policies.
 fn octets(alloc: Global) -> Result<Vec<[u8; 2]>, AllocError> {
@@ -62,49 +60,6 @@ fn count(alloc: Global) -> Result<usize, AllocError> {
         PolicyOutcome::Valid(found) => Ok(found.len()),
         PolicyOutcome::Refused { .. } => Ok(0),
     }
-}
-
-/// What is wrong with a path of 24 certificates, of which the one before the last maps any-policy, and at which place.
-fn refusal(alloc: Global) -> Result<Option<(usize, PolicyReason)>, AllocError> {
-    let any: &[u8] = b"\x55\x1D\x20\x00";
-    let other: &[u8] = b"\x2A\x03";
-    let named = [any, other];
-    let mappings = [MappingView {
-        issuer_domain_policy: any,
-        subject_domain_policy: other,
-    }];
-    let certificate = PolicyView {
-        policies: Some(named.as_slice()),
-        mappings: &[],
-        require_explicit_policy: None,
-        inhibit_policy_mapping: None,
-        inhibit_any_policy: None,
-        is_self_issued: false,
-    };
-    let settings = PolicySettings {
-        user_initial_policy_set: named.as_slice(),
-        initial_policy_mapping_inhibit: false,
-        initial_explicit_policy: true,
-        initial_any_policy_inhibit: false,
-    };
-    let mut path = Vec::new(alloc);
-    for _ in 0..22 {
-        path.push(certificate)?;
-    }
-    path.push(PolicyView {
-        mappings: mappings.as_slice(),
-        ..certificate
-    })?;
-    match check_policies(alloc, &settings, &path, &certificate)? {
-        PolicyOutcome::Valid(_) => Ok(None),
-        PolicyOutcome::Refused { place, reason } => Ok(Some((place, reason))),
-    }
-}
-
-#[test]
-fn refused_behind_many(rt: HostRuntime) {
-    let refused = refusal(rt.alloc()) == Ok(Some((22, PolicyReason::MapsAnyPolicy)));
-    assert!(rt; refused);
 }
 
 #[test]
