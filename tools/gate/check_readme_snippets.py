@@ -11,7 +11,7 @@ import textwrap
 TOP = pathlib.Path(__file__).resolve().parents[2]
 INSTALLED = ("text.c", "text.cc", "CMakeLists.txt", "text.rs", "text.py")
 TRUSTED = ("bindings/rust/tests/find.rs",)
-REVOKED = ("crates/x509_path_tests/src/validated.rt",)
+REVOKED = ("crates/x509_cert_tests/src/validated.rt",)
 PYTHON = "bindings/python/tests/test_lint.py", "bindings/python/tests/test_verification.py"
 FILES = ("crates/x509_cert_tests/src/example.rt", *(f"examples/installed/{name}" for name in INSTALLED), *TRUSTED, *REVOKED, *PYTHON)
 ENTRIES = (
