@@ -12,9 +12,7 @@ ghost use Rattle.x509_lint.specs.declared.texts.TextFault.TheVariants.{Label, Ot
 
 use crate::lists::{Test, all_of, any_attribute, any_of};
 use crate::passes;
-use crate::texts::{
-    TextFault, has_faulty_text, is_ia5, is_ia5_string, is_utf8, is_utf8_string,
-};
+use crate::texts::{TextFault, has_faulty_text, is_ia5, is_ia5_string, is_utf8, is_utf8_string};
 use crate::uris::{before, behind, contains, has_other_host, is_absolute, is_uri};
 use x509_der::{Any, ObjectIdentifier, Tag, oid};
 use x509_ext::pkix::name::GeneralName;

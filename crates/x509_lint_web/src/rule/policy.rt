@@ -7,9 +7,7 @@ ghost use Rattle.x509_lint_web.specs.Sentence.{IsTold};
 
 use crate::entry::{WebEntry, entries};
 use crate::names::{has_attribute, has_other_attribute};
-use crate::places::{
-    OtherMethod, are_without_ocsp, have_other_location, is_without_revocation,
-};
+use crate::places::{OtherMethod, are_without_ocsp, have_other_location, is_without_revocation};
 use crate::policies::{
     ANY_POLICY, DOMAIN_VALIDATED, ORGANIZATION_VALIDATED, OtherQualified, QualifiedPolicy,
     ReservedPolicy, has_policy,
