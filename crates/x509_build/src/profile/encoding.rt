@@ -11,14 +11,27 @@ use x509_name::name::{Name, RelativeDistinguishedName};
 fn is_there(rdn: &RelativeDistinguishedName, oid: ObjectIdentifier) -> bool
     ensures { result ≡ is_there oid rdn.now }
 {
-    rdn.as_slice().iter().any(|attribute| attribute.oid == oid)
+    let mut attributes = rdn.as_slice();
+    while let [attribute, rest @ ..] = attributes {
+        if attribute.oid == oid {
+            return true;
+        }
+        attributes = rest;
+    }
+    false
 }
 
 /// Whether some attribute of these has the type.
-pub(crate) fn has_type(rdns: &[RelativeDistinguishedName], oid: ObjectIdentifier) -> bool
-    ensures { result ≡ has_type oid rdns.now }
+pub(crate) fn has_type(mut rdns: &[RelativeDistinguishedName], oid: ObjectIdentifier) -> bool
+    ensures { result ≡ has_type oid rdns.entry.now }
 {
-    rdns.iter().any(|rdn| is_there(rdn, oid))
+    while let [rdn, rest @ ..] = rdns {
+        if is_there(rdn, oid) {
+            return true;
+        }
+        rdns = rest;
+    }
+    false
 }
 
 /// `next` is the place in the order after all types of the earlier RDNs. The answer is that place after this RDN too,
