@@ -18,10 +18,11 @@ use x509_prim::OctetString;
 use x509_sct::{CtPrecertificatePoison, SignedCertificateTimestampList};
 
 /// Whether the bytes behind the front of the extension are those of a payload, of whose copy the extension is made.
-fn is_payload<T>(rt: &HostRuntime, front: usize, extension: &[u8]) -> bool
+fn is_payload<T>(rt: &HostRuntime, row: &(usize, &[u8])) -> bool
 where
     T: AssociatedOid + Criticality + Decode + Encode + TryClone + Drop,
 {
+    let (front, extension) = *row;
     let Some(bytes) = extension.get(front..) else {
         return false;
     };
@@ -34,129 +35,155 @@ where
     }
 }
 
-/// Under an empty subject the SAN is critical (RFC 5280 4.2.1.6).
+/// Extensions of keys and their uses: how many octets stand before the payload, and the whole.
+static KEYS: [(usize, &[u8]); 6] = [
+    (9, b"\x30\x0A\x06\x03\x55\x1D\x0E\x04\x03\x04\x01\xAA"),
+    (
+        12,
+        b"\x30\x0E\x06\x03\x55\x1D\x0F\x01\x01\xFF\x04\x04\x03\x02\x07\x80",
+    ),
+    (9, b"\x30\x09\x06\x03\x55\x1D\x10\x04\x02\x30\x00"),
+    (
+        9,
+        b"\x30\x14\x06\x03\x55\x1D\x23\x04\x0D\x30\x0B\x80\x01\xAA\xA1\x03\x82\x01\x61\x82\x01\x2A",
+    ),
+    (9, b"\x30\x09\x06\x03\x55\x1D\x25\x04\x02\x30\x00"),
+    (
+        9,
+        b"\x30\x12\x06\x03\x55\x1D\x09\x04\x0B\x30\x09\x30\x07\x06\x03\x55\x04\x06\x31\x00",
+    ),
+];
+
 #[test]
-fn of_keys_and_parties(rt: HostRuntime) {
+fn of_keys(rt: HostRuntime) {
     let answers = [
-        is_payload::<SubjectKeyIdentifier>(
-            &rt,
-            9,
-            b"\x30\x0A\x06\x03\x55\x1D\x0E\x04\x03\x04\x01\xAA",
-        ),
-        is_payload::<KeyUsage>(
-            &rt,
-            12,
-            b"\x30\x0E\x06\x03\x55\x1D\x0F\x01\x01\xFF\x04\x04\x03\x02\x07\x80",
-        ),
-        is_payload::<PrivateKeyUsagePeriod>(
-            &rt,
-            9,
-            b"\x30\x09\x06\x03\x55\x1D\x10\x04\x02\x30\x00",
-        ),
-        is_payload::<AuthorityKeyIdentifier>(
-            &rt,
-            9,
-            b"\x30\x14\x06\x03\x55\x1D\x23\x04\x0D\x30\x0B\x80\x01\xAA\xA1\x03\x82\x01\x61\x82\x01\x2A",
-        ),
-        is_payload::<ExtendedKeyUsage>(&rt, 9, b"\x30\x09\x06\x03\x55\x1D\x25\x04\x02\x30\x00"),
-        is_payload::<SubjectDirectoryAttributes>(
-            &rt,
-            9,
-            b"\x30\x12\x06\x03\x55\x1D\x09\x04\x0B\x30\x09\x30\x07\x06\x03\x55\x04\x06\x31\x00",
-        ),
-        is_payload::<SubjectAltName>(
-            &rt,
-            12,
-            b"\x30\x0C\x06\x03\x55\x1D\x11\x01\x01\xFF\x04\x02\x30\x00",
-        ),
-        is_payload::<IssuerAltName>(
-            &rt,
-            9,
-            b"\x30\x0F\x06\x03\x55\x1D\x12\x04\x08\x30\x06\x87\x04\x7F\x00\x00\x01",
-        ),
-        is_payload::<AuthorityInfoAccessSyntax>(
-            &rt,
-            14,
-            b"\x30\x1D\x06\x08\x2B\x06\x01\x05\x05\x07\x01\x01\x04\x11\x30\x0F\x30\x0D\x06\x08\x2B\x06\x01\x05\x05\x07\x30\x01\x86\x01\x78",
-        ),
-        is_payload::<SubjectInfoAccessSyntax>(
-            &rt,
-            14,
-            b"\x30\x1D\x06\x08\x2B\x06\x01\x05\x05\x07\x01\x0B\x04\x11\x30\x0F\x30\x0D\x06\x08\x2B\x06\x01\x05\x05\x07\x30\x01\x86\x01\x78",
-        ),
-        is_payload::<SignedCertificateTimestampList>(
-            &rt,
-            16,
-            b"\x30\x12\x06\x0A\x2B\x06\x01\x04\x01\xD6\x79\x02\x04\x02\x04\x04\x04\x02\x00\x00",
-        ),
-        is_payload::<CtPrecertificatePoison>(
-            &rt,
-            19,
-            b"\x30\x13\x06\x0A\x2B\x06\x01\x04\x01\xD6\x79\x02\x04\x03\x01\x01\xFF\x04\x02\x05\x00",
-        ),
+        is_payload::<SubjectKeyIdentifier>(&rt, &KEYS[0]),
+        is_payload::<KeyUsage>(&rt, &KEYS[1]),
+        is_payload::<PrivateKeyUsagePeriod>(&rt, &KEYS[2]),
+        is_payload::<AuthorityKeyIdentifier>(&rt, &KEYS[3]),
+        is_payload::<ExtendedKeyUsage>(&rt, &KEYS[4]),
+        is_payload::<SubjectDirectoryAttributes>(&rt, &KEYS[5]),
     ];
-    assert!(rt; answers == [true; 12]);
+    assert!(rt; answers == [true; 6]);
 }
 
-/// Of policies and constraints, and of CRLs.
+/// Those of names and places, and of logs. Under an empty subject the SAN is critical (RFC 5280 4.2.1.6).
+static PARTIES: [(usize, &[u8]); 6] = [
+    (
+        12,
+        b"\x30\x0C\x06\x03\x55\x1D\x11\x01\x01\xFF\x04\x02\x30\x00",
+    ),
+    (
+        9,
+        b"\x30\x0F\x06\x03\x55\x1D\x12\x04\x08\x30\x06\x87\x04\x7F\x00\x00\x01",
+    ),
+    (
+        14,
+        b"\x30\x1D\x06\x08\x2B\x06\x01\x05\x05\x07\x01\x01\x04\x11\x30\x0F\x30\x0D\x06\x08\x2B\x06\x01\x05\x05\x07\x30\x01\x86\x01\x78",
+    ),
+    (
+        14,
+        b"\x30\x1D\x06\x08\x2B\x06\x01\x05\x05\x07\x01\x0B\x04\x11\x30\x0F\x30\x0D\x06\x08\x2B\x06\x01\x05\x05\x07\x30\x01\x86\x01\x78",
+    ),
+    (
+        16,
+        b"\x30\x12\x06\x0A\x2B\x06\x01\x04\x01\xD6\x79\x02\x04\x02\x04\x04\x04\x02\x00\x00",
+    ),
+    (
+        19,
+        b"\x30\x13\x06\x0A\x2B\x06\x01\x04\x01\xD6\x79\x02\x04\x03\x01\x01\xFF\x04\x02\x05\x00",
+    ),
+];
+
 #[test]
-fn of_policies_and_lists(rt: HostRuntime) {
+fn of_parties(rt: HostRuntime) {
     let answers = [
-        is_payload::<CertificatePolicies>(
-            &rt,
-            9,
-            b"\x30\x22\x06\x03\x55\x1D\x20\x04\x1B\x30\x19\x30\x17\x06\x02\x2A\x03\x30\x11\x30\x0F\x06\x08\x2B\x06\x01\x05\x05\x07\x02\x01\x16\x03\x61\x3A\x62",
-        ),
-        is_payload::<PolicyMappings>(
-            &rt,
-            12,
-            b"\x30\x16\x06\x03\x55\x1D\x21\x01\x01\xFF\x04\x0C\x30\x0A\x30\x08\x06\x02\x2A\x03\x06\x02\x2A\x04",
-        ),
-        is_payload::<PolicyConstraints>(
-            &rt,
-            12,
-            b"\x30\x0C\x06\x03\x55\x1D\x24\x01\x01\xFF\x04\x02\x30\x00",
-        ),
-        is_payload::<InhibitAnyPolicy>(
-            &rt,
-            12,
-            b"\x30\x0D\x06\x03\x55\x1D\x36\x01\x01\xFF\x04\x03\x02\x01\x00",
-        ),
-        is_payload::<BasicConstraints>(
-            &rt,
-            12,
-            b"\x30\x0F\x06\x03\x55\x1D\x13\x01\x01\xFF\x04\x05\x30\x03\x01\x01\xFF",
-        ),
-        is_payload::<NameConstraints>(
-            &rt,
-            12,
-            b"\x30\x13\x06\x03\x55\x1D\x1E\x01\x01\xFF\x04\x09\x30\x07\xA1\x05\x30\x03\x82\x01\x61",
-        ),
-        is_payload::<CrlNumber>(&rt, 9, b"\x30\x0A\x06\x03\x55\x1D\x14\x04\x03\x02\x01\x01"),
-        is_payload::<CrlReason>(&rt, 9, b"\x30\x0A\x06\x03\x55\x1D\x15\x04\x03\x0A\x01\x01"),
-        is_payload::<CertificateIssuer>(
-            &rt,
-            12,
-            b"\x30\x0F\x06\x03\x55\x1D\x1D\x01\x01\xFF\x04\x05\x30\x03\x86\x01\x61",
-        ),
-        is_payload::<BaseCrlNumber>(
-            &rt,
-            12,
-            b"\x30\x0D\x06\x03\x55\x1D\x1B\x01\x01\xFF\x04\x03\x02\x01\x01",
-        ),
-        is_payload::<IssuingDistributionPoint>(
-            &rt,
-            12,
-            b"\x30\x10\x06\x03\x55\x1D\x1C\x01\x01\xFF\x04\x06\x30\x04\xA0\x02\xA1\x00",
-        ),
-        is_payload::<CrlDistributionPoints>(
-            &rt,
-            9,
-            b"\x30\x16\x06\x03\x55\x1D\x1F\x04\x0F\x30\x0D\x30\x0B\xA0\x05\xA0\x03\x86\x01\x61\x81\x02\x06\x40",
-        ),
-        is_payload::<FreshestCrl>(&rt, 9, b"\x30\x09\x06\x03\x55\x1D\x2E\x04\x02\x30\x00"),
+        is_payload::<SubjectAltName>(&rt, &PARTIES[0]),
+        is_payload::<IssuerAltName>(&rt, &PARTIES[1]),
+        is_payload::<AuthorityInfoAccessSyntax>(&rt, &PARTIES[2]),
+        is_payload::<SubjectInfoAccessSyntax>(&rt, &PARTIES[3]),
+        is_payload::<SignedCertificateTimestampList>(&rt, &PARTIES[4]),
+        is_payload::<CtPrecertificatePoison>(&rt, &PARTIES[5]),
     ];
-    assert!(rt; answers == [true; 13]);
+    assert!(rt; answers == [true; 6]);
+}
+
+/// Those of policies and constraints.
+static POLICIES: [(usize, &[u8]); 6] = [
+    (
+        9,
+        b"\x30\x22\x06\x03\x55\x1D\x20\x04\x1B\x30\x19\x30\x17\x06\x02\x2A\x03\x30\x11\x30\x0F\x06\x08\x2B\x06\x01\x05\x05\x07\x02\x01\x16\x03\x61\x3A\x62",
+    ),
+    (
+        12,
+        b"\x30\x16\x06\x03\x55\x1D\x21\x01\x01\xFF\x04\x0C\x30\x0A\x30\x08\x06\x02\x2A\x03\x06\x02\x2A\x04",
+    ),
+    (
+        12,
+        b"\x30\x0C\x06\x03\x55\x1D\x24\x01\x01\xFF\x04\x02\x30\x00",
+    ),
+    (
+        12,
+        b"\x30\x0D\x06\x03\x55\x1D\x36\x01\x01\xFF\x04\x03\x02\x01\x00",
+    ),
+    (
+        12,
+        b"\x30\x0F\x06\x03\x55\x1D\x13\x01\x01\xFF\x04\x05\x30\x03\x01\x01\xFF",
+    ),
+    (
+        12,
+        b"\x30\x13\x06\x03\x55\x1D\x1E\x01\x01\xFF\x04\x09\x30\x07\xA1\x05\x30\x03\x82\x01\x61",
+    ),
+];
+
+#[test]
+fn of_policies(rt: HostRuntime) {
+    let answers = [
+        is_payload::<CertificatePolicies>(&rt, &POLICIES[0]),
+        is_payload::<PolicyMappings>(&rt, &POLICIES[1]),
+        is_payload::<PolicyConstraints>(&rt, &POLICIES[2]),
+        is_payload::<InhibitAnyPolicy>(&rt, &POLICIES[3]),
+        is_payload::<BasicConstraints>(&rt, &POLICIES[4]),
+        is_payload::<NameConstraints>(&rt, &POLICIES[5]),
+    ];
+    assert!(rt; answers == [true; 6]);
+}
+
+/// Those of CRLs.
+static LISTS: [(usize, &[u8]); 7] = [
+    (9, b"\x30\x0A\x06\x03\x55\x1D\x14\x04\x03\x02\x01\x01"),
+    (9, b"\x30\x0A\x06\x03\x55\x1D\x15\x04\x03\x0A\x01\x01"),
+    (
+        12,
+        b"\x30\x0F\x06\x03\x55\x1D\x1D\x01\x01\xFF\x04\x05\x30\x03\x86\x01\x61",
+    ),
+    (
+        12,
+        b"\x30\x0D\x06\x03\x55\x1D\x1B\x01\x01\xFF\x04\x03\x02\x01\x01",
+    ),
+    (
+        12,
+        b"\x30\x10\x06\x03\x55\x1D\x1C\x01\x01\xFF\x04\x06\x30\x04\xA0\x02\xA1\x00",
+    ),
+    (
+        9,
+        b"\x30\x16\x06\x03\x55\x1D\x1F\x04\x0F\x30\x0D\x30\x0B\xA0\x05\xA0\x03\x86\x01\x61\x81\x02\x06\x40",
+    ),
+    (9, b"\x30\x09\x06\x03\x55\x1D\x2E\x04\x02\x30\x00"),
+];
+
+#[test]
+fn of_lists(rt: HostRuntime) {
+    let answers = [
+        is_payload::<CrlNumber>(&rt, &LISTS[0]),
+        is_payload::<CrlReason>(&rt, &LISTS[1]),
+        is_payload::<CertificateIssuer>(&rt, &LISTS[2]),
+        is_payload::<BaseCrlNumber>(&rt, &LISTS[3]),
+        is_payload::<IssuingDistributionPoint>(&rt, &LISTS[4]),
+        is_payload::<CrlDistributionPoints>(&rt, &LISTS[5]),
+        is_payload::<FreshestCrl>(&rt, &LISTS[6]),
+    ];
+    assert!(rt; answers == [true; 7]);
 }
 
 /// 1.2.3.4.
