@@ -1,5 +1,5 @@
-//! Types with each kind of field, which show what a type over the frames costs and are used by tests alone. Words of
-//! our own, such as frame and law, are explained in `docs/MAP.md`.
+//! Types with each kind of field, which show how a type over the frames is written and what it costs. Nothing stands on them.
+//! Words of our own, such as frame and law, are explained in `docs/MAP.md`.
 #![tactic(auto)]
 
 mod dated;
