@@ -122,26 +122,120 @@ fn under(name: &[u8]) -> AnchorRef<'_> {
     AnchorRef { name, key: KEY }
 }
 
-/// What is answered of [`LEAF`], in short, and of which certificate it is told: the topmost of a path, or one that isn't let through.
-fn ask(alloc: Global, settings: &VerifySettings<'_, '_, '_, '_, 'static>) -> (&'static str, u8) {
-    let Ok(anchors) = Anchors::new(alloc, &[Trusted::new(under(NAME))]) else {
+/// What is told, in short, and of which certificate: the topmost of a path, or one that isn't let through.
+type Answer = (&'static str, u8);
+
+/// What is told by an error.
+fn told_by(error: &VerifyError<'_>) -> Answer {
+    match error {
+        VerifyError::OtherName => ("another name", 0),
+        VerifyError::Revocation(refused) => ("refused", serial_of(refused.certificate)),
+        VerifyError::TooManyRefused => ("too many", 0),
+        VerifyError::Path(FindError::Refused(_)) => ("no path", 0),
+        VerifyError::Path(FindError::Limit) => ("limit", 0),
+        VerifyError::Path(_) => ("another refusal", 0),
+    }
+}
+
+/// What is told of the certificate.
+fn ask<'x>(
+    alloc: Global,
+    leaf: &'x [u8],
+    candidates: &[&'x [u8]],
+    anchor: AnchorRef<'x>,
+    settings: &VerifySettings<'_, '_, '_, '_, 'x>,
+) -> Answer {
+    let trusted = Trusted::new(anchor);
+    let Ok(anchors) = Anchors::new(alloc, &[trusted]) else {
         return ("no memory", 0);
     };
-    let Ok(pool) = Pool::new(alloc, &[TWIN, FIRST]) else {
+    let Ok(pool) = Pool::new(alloc, candidates) else {
         return ("no memory", 0);
     };
-    match verify_peer(alloc, &anchors, &pool, LEAF, settings, &AnySignature) {
+    match verify_peer(alloc, &anchors, &pool, leaf, settings, &AnySignature) {
         Ok(found) => match found.path.as_slice() {
             [first, _] => ("found", serial_of(first)),
             _ => ("another path", 0),
         },
-        Err(VerifyError::OtherName) => ("another name", 0),
-        Err(VerifyError::Revocation(refused)) => ("refused", serial_of(refused.certificate)),
-        Err(VerifyError::TooManyRefused) => ("too many", 0),
-        Err(VerifyError::Path(FindError::Refused(_))) => ("no path", 0),
-        Err(VerifyError::Path(FindError::Limit)) => ("limit", 0),
-        Err(VerifyError::Path(_)) => ("another refusal", 0),
+        Err(error) => told_by(&error),
     }
+}
+
+/// What is told of the certificate of a server without CRLs.
+fn ask_server<'x>(
+    alloc: Global,
+    leaf: &'x [u8],
+    host: &'x str,
+    initial_explicit_policy: bool,
+    max_signatures: u32,
+) -> Answer {
+    let Ok(moment) = DateTime::from_str("2030-01-01T00:00:00Z") else {
+        return ("no date", 0);
+    };
+    let Ok(name) = ServerName::parse(host) else {
+        return ("no name", 0);
+    };
+    let settings = VerifySettings {
+        path: PathSettings {
+            initial_explicit_policy,
+            ..PathSettings::new(moment)
+        },
+        limits: SearchLimits {
+            max_signatures,
+            ..SearchLimits::default()
+        },
+        name: Some(PeerName::Server(name)),
+        revocation: None,
+    };
+    ask(alloc, leaf, &[TWIN, FIRST], under(NAME), &settings)
+}
+
+/// What is told of the certificate beside two CRLs.
+fn ask_beside<'x>(
+    alloc: Global,
+    leaf: &'x [u8],
+    crls: [&'x [u8]; 2],
+    signers: [AnchorRef<'x>; 2],
+    scope: RevocationScope,
+    allows_undetermined: bool,
+    max_refused: u8,
+) -> Answer {
+    let Ok(moment) = DateTime::from_str("2030-01-01T00:00:00Z") else {
+        return ("no date", 0);
+    };
+    let Ok(first) = CrlRef::<Rfc5280>::from_der(crls[0]) else {
+        return ("no CRL", 0);
+    };
+    let Ok(second) = CrlRef::<Rfc5280>::from_der(crls[1]) else {
+        return ("no CRL", 0);
+    };
+    let given = [
+        SignedCrl {
+            crl: &first,
+            signer: signers[0],
+        },
+        SignedCrl {
+            crl: &second,
+            signer: signers[1],
+        },
+    ];
+    let settings = VerifySettings {
+        path: PathSettings::new(moment),
+        limits: SearchLimits::default(),
+        name: None,
+        revocation: Some(RevocationCheck {
+            crls: &given,
+            settings: RevocationSettings {
+                moment,
+                without_next_update: false,
+                use_deltas: false,
+            },
+            scope,
+            allows_undetermined,
+            max_refused,
+        }),
+    };
+    ask(alloc, leaf, &[TWIN, FIRST], under(NAME), &settings)
 }
 
 /// What is asked of a server without CRLs, and what is answered.
@@ -149,7 +243,7 @@ struct Peer {
     host: &'static str,
     initial_explicit_policy: bool,
     max_signatures: u32,
-    answer: (&'static str, u8),
+    answer: Answer,
 }
 
 /// One that it names and another one; no path under a policy; and more signatures than may be verified.
@@ -181,24 +275,13 @@ static PEERS: [Peer; 4] = [
 ];
 
 #[test]
-fn without_crls(rt: HostRuntime) -> Result<(), Fail> {
-    let moment = DateTime::from_str("2030-01-01T00:00:00Z")?;
+fn without_crls(rt: HostRuntime) {
     for peer in &PEERS {
-        let settings = VerifySettings {
-            path: PathSettings {
-                initial_explicit_policy: peer.initial_explicit_policy,
-                ..PathSettings::new(moment)
-            },
-            limits: SearchLimits {
-                max_signatures: peer.max_signatures,
-                ..SearchLimits::default()
-            },
-            name: Some(PeerName::Server(ServerName::parse(peer.host)?)),
-            revocation: None,
-        };
-        assert!(rt; ask(rt.alloc(), &settings) == peer.answer);
+        let explicit = peer.initial_explicit_policy;
+        assert!(rt;
+            ask_server(rt.alloc(), LEAF, peer.host, explicit, peer.max_signatures) == peer.answer
+        );
     }
-    Ok(())
 }
 
 /// What is asked beside a CRL of CN=R and one of CN=I, and what is answered.
@@ -207,7 +290,7 @@ struct Revoking {
     scope: RevocationScope,
     allows_undetermined: bool,
     max_refused: u8,
-    answer: (&'static str, u8),
+    answer: Answer,
 }
 
 /// Where a candidate is revoked the path goes over another one, unless that is revoked too or none may be left out. The certificate itself:
@@ -265,38 +348,17 @@ static REVOKING: [Revoking; 7] = [
 ];
 
 #[test]
-fn with_crls(rt: HostRuntime) -> Result<(), Fail> {
-    let moment = DateTime::from_str("2030-01-01T00:00:00Z")?;
+fn with_crls(rt: HostRuntime) {
     for case in &REVOKING {
-        let first = CrlRef::<Rfc5280>::from_der(case.lists[0])?;
-        let second = CrlRef::<Rfc5280>::from_der(case.lists[1])?;
-        let crls = [
-            SignedCrl {
-                crl: &first,
-                signer: under(NAME),
-            },
-            SignedCrl {
-                crl: &second,
-                signer: under(ISSUER),
-            },
-        ];
-        let settings = VerifySettings {
-            path: PathSettings::new(moment),
-            limits: SearchLimits::default(),
-            name: None,
-            revocation: Some(RevocationCheck {
-                crls: &crls,
-                settings: RevocationSettings {
-                    moment,
-                    without_next_update: false,
-                    use_deltas: false,
-                },
-                scope: case.scope,
-                allows_undetermined: case.allows_undetermined,
-                max_refused: case.max_refused,
-            }),
-        };
-        assert!(rt; ask(rt.alloc(), &settings) == case.answer);
+        let told = ask_beside(
+            rt.alloc(),
+            LEAF,
+            case.lists,
+            [under(NAME), under(ISSUER)],
+            case.scope,
+            case.allows_undetermined,
+            case.max_refused,
+        );
+        assert!(rt; told == case.answer);
     }
-    Ok(())
 }
