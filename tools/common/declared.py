@@ -66,7 +66,7 @@ class Type:
 
     @property
     def whole(self):
-        """Its name with its parameters: `Dated<P>`."""
+        """Its name with its parameters: `Validity<P>`."""
         return self.name + (f"<{', '.join(re.split('[: ]', it)[0] for it in self.parameters.split(', '))}>" if self.parameters else "")
 
 

@@ -7,7 +7,7 @@ import re
 from . import declared
 from .declared import CRATES
 
-OF_TYPES = ("x509_der", "x509_prim", "x509_base", "x509_name", "x509_ext", "x509_sct", "x509_cert", "x509_test_types", "x509_check")
+OF_TYPES = ("x509_der", "x509_prim", "x509_base", "x509_name", "x509_ext", "x509_sct", "x509_cert", "x509_check")
 NUMBERS = {"u8", "u16", "u32", "u64", "u128", "usize"}
 # of a grammar: the check that its serial numbers have to pass, and the one of a profile
 CHECK, OF_PROFILE = "(List ℕ → Result Unit ErrorKind) → ", " P.serial_check"

@@ -13,7 +13,8 @@ sys.dont_write_bytecode = True
 from common.crates import TOP
 from common.grammar import OF_TYPES
 
-PROBE, PROBE_SPECS = "x509_test_types/src/probe.rt", "x509_test_types/specs/Probe.antt"
+EXTENSION, EXTENSION_SPECS = "x509_ext/src/extension.rt", "x509_ext/specs/Extension.antt"
+EXTENSION_CHECK, EXTENSION_EQUALITY = "x509_check/src/extension.rt", "x509_ext/specs/ExtensionEquality.antt"
 POINT, POINT_SPECS = "x509_ext/src/pkix/issuing_distribution_point.rt", "x509_ext/specs/IssuingDistributionPoint.antt"
 PLACE, PLACE_SPECS = "x509_ext/src/pkix/name/distribution_point_name.rt", "x509_ext/specs/DistributionPointName.antt"
 PLACE_CHECK, PLACE_EQUALITY = "x509_check/src/general_name.rt", "x509_ext/specs/GeneralNameEquality.antt"
@@ -23,11 +24,11 @@ ISSUER, ISSUER_SPECS = "x509_ext/src/pkix/authority_key_identifier.rt", "x509_ex
 KEY_CHECK, KEY_EQUALITY = "x509_check/src/payload.rt", "x509_ext/specs/KeyEquality.antt"
 POINT_CHECK, POINT_EQUALITY = "x509_check/src/constraint.rt", "x509_ext/specs/RevocationEquality.antt"
 # a field more of a type: in its struct, in the ASN.1 of its docs, and in the comment and the grammar line of its specs
-PROBE_FIELD = (
-    (PROBE, "    pub d: ObjectIdentifier,\n", "    pub d: ObjectIdentifier,\n\n    /// One more.\n    pub e: Option<BitString>,\n"),
-    (PROBE, "OBJECT IDENTIFIER }", "OBJECT IDENTIFIER,\n///     e   [2] IMPLICIT BIT STRING OPTIONAL }"),
-    (PROBE_SPECS, ", d: OBJECT IDENTIFIER\n", ", d: OBJECT IDENTIFIER, e: [2]BIT STRING?\n"),
-    (PROBE_SPECS, "⊗ required object_identifier))\n", "⊗ (required object_identifier ⊗ optional (implicit 2 bit_string))))\n"),
+EXTENSION_FIELD = (
+    (EXTENSION, "    pub extn_value: OctetString,\n", "    pub extn_value: OctetString,\n\n    /// More.\n    pub more: Option<BitString>,\n"),
+    (EXTENSION, "OCTET STRING }", "OCTET STRING,\n///     more       [2] IMPLICIT BIT STRING OPTIONAL }"),
+    (EXTENSION_SPECS, "extn_value: OCTET STRING (", "extn_value: OCTET STRING, more: [2]BIT STRING? ("),
+    (EXTENSION_SPECS, "⊗ required octet_string)\n", "⊗ (required octet_string ⊗ optional (implicit 2 bit_string)))\n"),
 )
 POINT_FIELD = (
     (POINT, "_attribute_certs: bool,\n}", "_attribute_certs: bool,\n\n    /// More.\n    pub more: Option<BitString>,\n}"),
@@ -53,11 +54,22 @@ ISSUER_FIELD = (
         "(optional (implicit 2 (serial_number rfc5280_serial_number)) ⊗ optional (implicit 3 octet_string)))\n",
     ),
 )
-PROBE_FIELD_GONE = (
-    (PROBE, "    /// A field with a default.\n    pub c: bool,\n\n", ""),
-    (PROBE, "///     c   BOOLEAN DEFAULT FALSE,\n", ""),
-    (PROBE_SPECS, " c: BOOLEAN=FALSE,", ""),
-    (PROBE_SPECS, "⊗ (defaulted boolean_default boolean ⊗ required object_identifier))\n", "⊗ required object_identifier)\n"),
+# a field less, and a field in another frame
+EXTENSION_FIELD_GONE = (
+    (
+        EXTENSION,
+        "    /// Whether an implementation that doesn't know the extension, or can't process its value, has to refuse the\n"
+        "    /// certificate or CRL (RFC 5280 4.2).\n    pub critical: bool,\n\n",
+        "",
+    ),
+    (EXTENSION, "///     critical   BOOLEAN DEFAULT FALSE,\n", ""),
+    (EXTENSION_SPECS, " critical: BOOLEAN=FALSE,", ""),
+    (EXTENSION_SPECS, "⊗ (defaulted boolean_default boolean ⊗ required octet_string)\n", "⊗ required octet_string\n"),
+)
+EXTENSION_FIELD_TAGGED = (
+    (EXTENSION, "critical   BOOLEAN", "critical   [0] EXPLICIT BOOLEAN"),
+    (EXTENSION_SPECS, "critical: BOOLEAN", "critical: {0}BOOLEAN"),
+    (EXTENSION_SPECS, "boolean_default boolean ⊗", "boolean_default (explicit 0 boolean) ⊗"),
 )
 PLACE_CASE = (
     (PLACE, "(RelativeDistinguishedName),\n}", "(RelativeDistinguishedName),\n\n    /// More.\n    Other(OctetString),\n}"),
@@ -66,36 +78,58 @@ PLACE_CASE = (
 # what is changed, the file for which it is run, and what then stands in which file
 WRITTEN = (
     (
-        PROBE_FIELD,
-        PROBE,
+        EXTENSION_FIELD,
+        EXTENSION,
         {
-            PROBE: (
-                "        let e = read_optional_implicit::<BitString>(alloc, 2, &mut rest)?;\n        end(rest)?;\n        Ok(Probe { a, b, c, d, e })\n",
-                "(defaulted(&self.c), (&self.d, optional_implicit(2, &self.e))),\n",
-                "                    (\n"
-                "                        both(&self.d, &other.d),\n"
-                "                        both_optional_implicit(2, &self.e, &other.e),\n"
-                "                    ),\n",
+            EXTENSION: (
+                "        let more = read_optional_implicit::<BitString>(alloc, 2, &mut rest)?;\n        end(rest)?;\n        Ok(Extension {\n",
+                "            extn_value: self.extn_value.try_clone(alloc)?,\n            more: self.more.try_clone(alloc)?,\n",
+                "                defaulted(&self.critical),\n                (&self.extn_value, optional_implicit(2, &self.more)),\n",
+                "                (\n"
+                "                    both(&self.extn_value, &other.extn_value),\n"
+                "                    both_optional_implicit(2, &self.more, &other.more),\n"
+                "                ),\n",
                 "use x509_prim::{BitString, OctetString};\n",
+                "    #[inline(always)]\n    fn read_content(",
             ),
-            PROBE_SPECS: (
-                "probe_fields : Part (ℕ × (Option (List ℕ) × (Bool × (List ℕ × Option BitParts))))\n",
-                "(λ p. (p.a, (p.b, (p.c, (p.d, p.e))))) (λ (a, (b, (c, (d, e)))). record { a = a; b = b; c = c; d = d; e = e }) probe_fields\n",
-                "probe_cmp : PartOrder (ℕ × (Option (List ℕ) × (Bool × (List ℕ × Option BitParts))))\n",
-                "probe_order = by_parts (λ p. (p.a, (p.b, (p.c, (p.d, p.e))))) probe_cmp\n",
+            EXTENSION_CHECK: (
+                "        check_optional_implicit::<BitString>(2, &mut rest)?;\n        end(rest)\n",
+                "use crate::field::{check_defaulted, check_field, check_optional_implicit};\n",
             ),
+            EXTENSION_SPECS: (
+                "extension_fields : Part (List ℕ × (Bool × (List ℕ × Option BitParts)))\n",
+                "(λ e. (e.extn_id, (e.critical, (e.extn_value, e.more)))) (λ (extn_id, (critical, (extn_value, more))). "
+                "record { extn_id = extn_id; critical = critical; extn_value = extn_value; more = more }) extension_fields\n",
+                "extension_cmp : PartOrder (List ℕ × (Bool × (List ℕ × Option BitParts)))\n",
+                "extension_order = by_parts (λ e. (e.extn_id, (e.critical, (e.extn_value, e.more)))) extension_cmp\n",
+            ),
+            EXTENSION_EQUALITY: ("(exact_both exact_octets (exact_both exact_bool (exact_both exact_octets (exact_option exact_bit_string))))\n",),
         },
     ),
     (
-        PROBE_FIELD_GONE,
-        PROBE,
+        EXTENSION_FIELD_GONE,
+        EXTENSION,
         {
-            PROBE: (
-                "        let parts = (\n            defaulted_explicit(0, &self.a),\n            (optional_implicit(1, &self.b), &self.d),\n        );\n",
-                "    CmpPart, Content, Error, ObjectIdentifier, PutPart, Room, Tag, ValueOrd, both,\n"
-                "    both_defaulted_explicit, both_optional_implicit, defaulted_explicit, end, optional_implicit,\n"
-                "    read_defaulted_explicit, read_field, read_optional_implicit,\n",
+            EXTENSION: (
+                "        let parts = (&self.extn_id, &self.extn_value);\n",
+                "            both(&self.extn_id, &other.extn_id),\n            both(&self.extn_value, &other.extn_value),\n        );\n",
+                "    SetOrd, Spelled, Tag, TryClone, ValueOrd, both, end, read_field,\n};\n",
             ),
+            EXTENSION_CHECK: ("use crate::field::check_field;\n",),
+        },
+    ),
+    (
+        EXTENSION_FIELD_TAGGED,
+        EXTENSION,
+        {
+            EXTENSION: (
+                "        let critical = read_defaulted_explicit::<bool>(alloc, 0, &mut rest)?;\n",
+                "        let parts = (\n            &self.extn_id,\n            (defaulted_explicit(0, &self.critical), &self.extn_value),\n        );\n",
+                "                both_defaulted_explicit(0, &self.critical, &other.critical),\n",
+                "    SetOrd, Spelled, Tag, TryClone, ValueOrd, both, both_defaulted_explicit, defaulted_explicit,\n"
+                "    end, read_defaulted_explicit, read_field,\n",
+            ),
+            EXTENSION_CHECK: ("        check_defaulted_explicit::<bool>(0, &mut rest)?;\n",),
         },
     ),
     (
@@ -187,24 +221,33 @@ WRITTEN = (
         },
     ),
 )
-# what is said of each value that is made by hand without a field, and how many there are: of the file, two values, each in code and in a clause
-MADE = {ISSUER: (": a value of AuthorityKeyIdentifier without more\n", 4)}
+# what is said of each value that is made by hand without a field, and how many there are: two of each type, and of the second both in clauses too
+MADE = {
+    EXTENSION_FIELD: (": a value of Extension without more\n", 2),
+    ISSUER_FIELD: (": a value of AuthorityKeyIdentifier without more\n", 4),
+}
 # what is changed so that a type and its grammar don't say the same, and what `--check` says
 UNLIKE = (
-    (PROBE_FIELD[:3], "Probe has 5 fields, and x509_test_types::specs::Probe::probe_fields 4"),
-    ((PROBE_FIELD[0], *PROBE_FIELD[2:]), "Probe has 5 fields, and its docs 4"),
-    ((*PROBE_FIELD[:2], PROBE_FIELD[3]), "Probe has 5 fields, and its comment 0"),
-    (((PROBE, "[1] IMPLICIT", "[1] EXPLICIT"),), "Probe.b is optional explicit 1 in its docs, and optional implicit 1 in "),
-    (((PROBE_SPECS, "c: BOOLEAN=FALSE", "c: BOOLEAN"),), "Probe.c is required in its comment, and defaulted in "),
-    (((PROBE, "Option<OctetString>,", "OctetString,"),), "Probe.b is OctetString, and optional implicit 1 in "),
+    (EXTENSION_FIELD[:3], "Extension has 4 fields, and x509_ext::specs::Extension::extension_fields 3"),
+    ((EXTENSION_FIELD[0], *EXTENSION_FIELD[2:]), "Extension has 4 fields, and its docs 3"),
+    ((*EXTENSION_FIELD[:2], EXTENSION_FIELD[3]), "Extension has 4 fields, and its comment 0"),
+    (((PERIOD, "[1] IMPLICIT", "[1] EXPLICIT"),), "PrivateKeyUsagePeriod.not_after is optional explicit 1 in its docs, and optional implicit 1 in "),
+    (((EXTENSION_SPECS, "critical: BOOLEAN=FALSE", "critical: BOOLEAN"),), "Extension.critical is required in its comment, and defaulted in "),
+    (
+        ((PERIOD, "_before: Option<GeneralizedTime>,", "_before: GeneralizedTime,"),),
+        "PrivateKeyUsagePeriod.not_before is GeneralizedTime, and optional implicit 0 in ",
+    ),
     (PLACE_CASE[:1], "DistributionPointName has other cases than x509_ext::specs::DistributionPointName::distribution_point_name_cases"),
 )
+# an impl that is taken out
+SET_ORD = "impl SetOrd for Extension {\n    ghost set_order = { ⟦<Extension as EncodingOrd>⟧.encoding_order };\n}\n\n"
 # what is changed at once, and what `--check` says of it
 FAULTS = (
     (NAMES, "            excluded_subtrees: _,\n", ""),
     (POINT_EQUALITY, "exact_reasons = exact_by (λ (r : Reasons). r.0)", "exact_reasons = exact_by (λ (r : Reasons). r)"),
     (ODD, "# ---- x509_sct\n", f"# ---- x509_sct\n{NAMES} TryClone NameConstraints: why\n{NAMES} Drop Nothing: why\n"),
     (ODD, ": has no content\n", "\n"),
+    (EXTENSION, SET_ORD, ""),
 )
 FOUND = (
     f"failed: {NAMES} Drop NameConstraints: it isn't what tools/build/derive.py writes\n",
@@ -212,6 +255,7 @@ FOUND = (
     f"failed: {NAMES} TryClone NameConstraints: it is what would be written",
     f"failed: {NAMES} Drop Nothing: there is no such thing",
     "failed: x509_sct/src/poison.rt Content CtPrecertificatePoison: no reason",
+    f"failed: {EXTENSION} SetOrd Extension: it isn't what tools/build/derive.py writes\n",
     "+            excluded_subtrees: _,\n",
 )
 # impls that are taken out of a file, and written again
@@ -256,7 +300,7 @@ def faults(folder):
     crates = folder / "crates"
     for changes, file, wanted in WRITTEN:
         with Copy(folder, changes):
-            said, count = MADE.get(file, (": a value of ", 0))
+            said, count = MADE.get(changes, (": a value of ", 0))
             if (found := run(folder, file).stdout).count(said) != count:
                 yield f"{file}: not {count} times {said!r} in {found}"
             for name, texts in wanted.items():
@@ -278,8 +322,8 @@ def faults(folder):
     parts = [re.search(rf"\n(?:#\[.*\n)?impl {trait} for NameConstraints {{\n(?:.*\n)*?}}\n", whole)[0] for trait in TRAITS]
     with Copy(folder, [(NAMES, part, "") for part in parts]):
         run(folder, NAMES)
-        run(folder, PROBE, "Probe")
-        for name in (NAMES, PROBE):
+        run(folder, EXTENSION, "Extension")
+        for name in (NAMES, EXTENSION):
             if (crates / name).read_bytes() != (TOP / "crates" / name).read_bytes():
                 yield f"{name} isn't written as it was"
 
