@@ -18,10 +18,10 @@ from common.crates import ABOVE_NAMES, crate_of, crates_below, lines_of, path_of
 
 TOP = pathlib.Path(__file__).resolve().parents[2]
 # What takes long to read, and serves no type: matching of names, paths that are validated, and tables of Unicode.
-LARGE = {"x509_match", "x509_constraints", "x509_policy", "x509_validation", "caseless", "ucd_category", "unicode_normalization"}
+LARGE = {"x509_match", "x509_constraints", "x509_policy", "x509_path_steps", "x509_validation", "caseless", "ucd_category", "unicode_normalization"}
 # What serves no type of names and below.
 ABOVE = {"x509_ext", "x509_sct", "x509_cert", "x509_check", "x509_path", "x509_all_types"}
-WORD, TYPE, ROW = re.compile(r'"([\w-]+)" => Some\(Kind::(\w+)\)'), re.compile(r'Kind::(\w+) => "(\w+)"'), re.compile(r'^ +"(\w+)" =>', re.M)
+WORD, TYPE, ROW = re.compile(r'\("([\w-]+)", Kind::(\w+)\)'), re.compile(r'Kind::(\w+) => "(\w+)"'), re.compile(r'^ +"(\w+)" =>', re.M)
 BUILD, RUN = "tools/build/build_program.py", "tools/build/run_unproved.py"
 SCRIPTS = ("x509_tool", "crates.txt", "HANDLES", "docs/GATE.md", "tools/common/crates.py", BUILD, RUN)
 # Answers by the words that the test hands on: VERB in the first line, then what `rt` prints on each stream, and its status.

@@ -9,7 +9,7 @@ use x509_der::{Piece, split_element};
 use x509_tool_run::Broken;
 
 /// Why a file isn't opened.
-#[derive(Clone, Copy, Debug, PartialEq, Eq)]
+#[derive(Clone, Copy)]
 pub enum OpenError {
     /// There is no file of this name.
     NotFound,
@@ -38,7 +38,7 @@ impl OpenError {
 }
 
 /// What bytes look like that are no object.
-#[derive(Clone, Copy, Debug, PartialEq, Eq)]
+#[derive(Clone, Copy)]
 pub enum Looks {
     /// There are none.
     Empty,
@@ -135,7 +135,7 @@ fn looks_text(alloc: Global, looks: Looks) -> Result<String, AllocError>
 }
 
 /// Why bytes aren't printed whole.
-#[derive(Clone, Copy, Debug, PartialEq, Eq)]
+#[derive(Clone, Copy)]
 pub enum PrintError {
     /// They are no object of the kind that is asked for.
     NoObject,
@@ -148,7 +148,7 @@ pub enum PrintError {
 }
 
 /// Why nothing whole is printed of an input.
-#[derive(Clone, Copy, Debug, PartialEq, Eq)]
+#[derive(Clone, Copy)]
 pub enum Fault {
     /// Its file isn't opened.
     Unopened(OpenError),
@@ -211,10 +211,8 @@ pub fn whole_words(alloc: Global, no_object: &str, wrong: &str) -> Result<String
 fn no_object_text(alloc: Global, no_object: &str, looks: Looks) -> Result<String, AllocError>
     ensures { IfOk result (λ text. string_bytes text ≡ no_object.now ++ looks_text looks) }
 {
-    let mut text = String::from_str(alloc, no_object)?;
     let looks = looks_text(alloc, looks)?;
-    text.push_str(looks.as_str())?;
-    Ok(text)
+    format!(in alloc; "{no_object}{looks}")
 }
 
 /// Why an input isn't shown, in words, where bytes that are no object are told so.

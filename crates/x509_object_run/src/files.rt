@@ -12,7 +12,7 @@ use std::rt::Files;
 use std::{fs, io};
 
 /// What stands at a path, where symbolic links are followed.
-#[derive(Clone, Copy, Debug, PartialEq, Eq)]
+#[derive(Clone, Copy)]
 pub enum Place {
     /// A regular file.
     File,

@@ -7,7 +7,7 @@ ghost use Rattle.x509_tool_run.specs.Program.{IsCutOff, IsWritten};
 use x509_tool_run::{Sink, WriteError, write_texts};
 
 /// A heading, which is empty where none is wanted.
-#[derive(Clone, Copy, Debug)]
+#[derive(Clone, Copy)]
 pub struct Heading<'a> {
     /// What the input is called.
     pub name: &'a str,
@@ -17,7 +17,7 @@ pub struct Heading<'a> {
 }
 
 /// What stands above what is printed of an input.
-#[derive(Clone, Copy, Debug, PartialEq, Eq)]
+#[derive(Clone, Copy)]
 pub enum Headed {
     /// Nothing.
     Not,

@@ -1,6 +1,6 @@
 //! The bytes of an object in an input.
 
-ghost use Rattle.std.specs.Prelude.{◌≡◌, IfOk, map};
+ghost use Rattle.std.specs.Prelude.{◌≡◌, IfOk, map, not};
 ghost use Rattle.std.specs.Option.{option_map};
 ghost use Rattle.x509_object_run.specs.Object.{digits_of, is_between, object_bytes, one_of, text_bytes};
 ghost use Rattle.x509_tool_run.specs.Pem.{pem_objects};
@@ -9,19 +9,19 @@ use hex::FromHexError;
 use std::alloc::{AllocError, Global};
 use x509_tool_run::pem_objects;
 
-/// Whether a character may stand between the digits of hex text: white space, or a colon.
-fn is_between(byte: &u8) -> bool
-    ensures { result ≡ is_between byte.now }
+/// Whether a character isn't one that may stand between the digits of hex text: white space, or a colon.
+fn is_digit(byte: &u8) -> bool
+    ensures { result ≡ not (is_between byte.now) }
 {
-    byte.is_ascii_whitespace() || *byte == b':'
+    !(byte.is_ascii_whitespace() || *byte == b':')
 }
 
-/// The others.
+/// These characters.
 fn digits_of(alloc: Global, input: &[u8]) -> Result<Vec<u8>, AllocError>
     ensures { IfOk result (λ digits. digits.items ≡ digits_of input.now) }
 {
     let mut digits = Vec::from_slice(alloc, input)?;
-    digits.retain(|byte| !is_between(byte));
+    digits.retain(is_digit);
     Ok(digits)
 }
 

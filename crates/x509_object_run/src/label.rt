@@ -18,7 +18,7 @@ pub(crate) fn is_standard(name: &str) -> bool
 fn has_control(name: &[u8]) -> bool
     ensures { result ≡ list_any is_ascii_control name.now }
 {
-    name.iter().any(|byte| byte.is_ascii_control())
+    name.iter().any(u8::is_ascii_control)
 }
 
 /// What a word is called in messages: one that could end a line isn't written.

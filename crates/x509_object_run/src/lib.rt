@@ -32,4 +32,4 @@ pub use messages::{say, tell_of_input};
 pub use named::read_named;
 pub use printer::{Asked, Printer};
 pub use program::{obey, refuse_memory, run, show_all};
-pub use words::{Words, split};
+pub use words::{Words, has_option, split};

@@ -17,12 +17,12 @@ use crate::heading::Headed;
 use crate::input::text_bytes;
 use crate::objects::{Objects, only_of};
 use crate::printer::Printer;
-use crate::shown::{do_item, do_numbered, greater_of, refuse};
+use crate::shown::{do_item, do_numbered, refuse};
 use std::alloc::{AllocError, Global};
 use x509_tool_run::{Broken, INPUT_LIMIT, ReadError, Scan, Sink, Source, Stage, ends_line};
 
 /// The items of an input that were met: the last one, which isn't told of yet, how many objects there are in the others, and the greatest of their statuses.
-#[derive(Debug, Drop)]
+#[derive(Drop)]
 struct Shown {
     pending: Option<Result<Vec<u8>, Fault>>,
     count: usize,
@@ -49,7 +49,7 @@ fn tell_object<P: Printer, W: Sink, E: Console>(
     let number = shown.count.saturating_add(1);
     let status = do_numbered(alloc, printer, label, number, object, writer, errors);
     shown.count = number;
-    shown.worst = greater_of(shown.worst, status);
+    shown.worst = shown.worst.max(status);
 }
 
 /// Tells of the objects that bytes stand for, one after the other.
@@ -193,11 +193,18 @@ fn do_line<P: Printer, W: Sink, E: Console>(
     Ok(())
 }
 
+/// Whether an octet ends a line.
+fn is_line_end(octet: &u8) -> bool
+    ensures { result ≡ ends_line octet.now }
+{
+    ends_line(octet)
+}
+
 /// Where the first line of some octets ends, if one does.
 fn line_end(octets: &[u8]) -> Option<usize>
     ensures { result ≡ position ends_line octets.now }
 {
-    octets.iter().position(|octet| ends_line(*octet))
+    octets.iter().position(is_line_end)
 }
 
 /// Reads the next octets of an input: the lines that end in them, and what is behind these.
@@ -267,7 +274,7 @@ fn is_over(scan: &Scan, kept: &[u8], line: &[u8]) -> bool
 }
 
 /// What is read of an input, and isn't told of.
-#[derive(Debug, Drop)]
+#[derive(Drop)]
 struct Held {
     /// All of it, where it isn't PEM.
     kept: Vec<u8>,

@@ -2,13 +2,12 @@
 
 ghost use Rattle.std.specs.List.{flat_map};
 ghost use Rattle.std.specs.Fmt.{decimal};
-ghost use Rattle.std.specs.Prelude.{◌≡◌, ◌⊎◌, ◌++◌, [], IfOk, string_bytes};
-ghost use Rattle.x509_object_run.specs.Faults.{complaint, fault_text, short_complaint};
+ghost use Rattle.std.specs.Prelude.{◌≡◌, ◌⊎◌, ◌++◌, IfOk, string_bytes};
+ghost use Rattle.x509_object_run.specs.Faults.{complaint, short_complaint};
 ghost use Rattle.x509_object_run.specs.Labels.{label_of};
 ghost use Rattle.x509_object_run.specs.Program.{IsTold, Says, progress};
 ghost use Rattle.x509_tool_run.specs.Answer.{as_line};
 ghost use Rattle.x509_tool_run.specs.Version.{version_text};
-ghost use Rattle.x509_object_run.specs.declared.fault.Fault.TheVariants.{Memory};
 
 use crate::label::label_of;
 use crate::printer::Printer;
@@ -79,17 +78,10 @@ fn count_text(alloc: Global, count: u64) -> Result<String, AllocError>
 }
 
 /// Tells what no input is at fault for.
-fn complain_shortly<P: Printer, E: Sink>(errors: &mut E, what: &'static [u8])
+pub(crate) fn complain_shortly<P: Printer, E: Sink>(errors: &mut E, what: &'static [u8])
     ensures { IsTold E.takes errors.old (short_complaint P.program.name what.now) errors.new }
 {
     tell_texts(errors, &[P::name(), b": ", what, b"\n"]);
-}
-
-/// Tells that there is no memory for the words or for names of inputs.
-pub(crate) fn complain_of_memory<P: Printer, E: Sink>(errors: &mut E)
-    ensures { IsTold E.takes errors.old (short_complaint P.program.name (fault_text [] Memory)) errors.new }
-{
-    complain_shortly::<P, E>(errors, b"out of memory");
 }
 
 /// Writes texts, and answers status 0; where they can't be written tells so, with status 2.

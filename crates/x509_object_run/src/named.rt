@@ -1,10 +1,9 @@
 //! Reading the input of a name.
 
-ghost use Rattle.std.specs.Prelude.{◌≡◌, ℕ, Ok, Err, List, MatchResult};
+ghost use Rattle.std.specs.Prelude.{◌≡◌, Ok, Err, MatchResult};
 ghost use Rattle.x509_object_run.specs.Labels.{is_standard};
-ghost use Rattle.x509_object_run.specs.Object.{fault_of, object_bytes, unread_fault};
+ghost use Rattle.x509_object_run.specs.Object.{fault_of};
 ghost use Rattle.x509_object_run.specs.Program.{IsFileRead, IsNamedRead, IsSourceRead};
-ghost use Rattle.x509_tool_run.specs.Input.{Input, IsRead, Whole};
 
 use crate::fault::{Fault, OpenError};
 use crate::files::Opener;
@@ -26,10 +25,10 @@ fn fault_of(refusal: Refusal) -> Fault
 }
 
 /// Reads an input, and answers the bytes that it is of.
-fn read_object<R: Source>(alloc: Global, reader: &mut R) -> Result<Vec<u8>, Fault>
+fn read_source<R: Source>(alloc: Global, reader: &mut R) -> Result<Vec<u8>, Fault>
     ensures { MatchResult result
-        (λ bytes. (input : List ℕ) × IsRead R.gives reader.old (Whole input) reader.new × (bytes.items ≡ object_bytes input))
-        (λ fault. (input : Input) × IsRead R.gives reader.old input reader.new × (fault ≡ unread_fault input)) }
+        (λ bytes. IsSourceRead R.gives reader.old reader.new (Ok bytes.items))
+        (λ fault. IsSourceRead R.gives reader.old reader.new (Err fault)) }
 {
     match read_input(alloc, reader) {
         Ok(input) => match object_bytes(alloc, input) {
@@ -38,15 +37,6 @@ fn read_object<R: Source>(alloc: Global, reader: &mut R) -> Result<Vec<u8>, Faul
         },
         Err(refusal) => Err(fault_of(refusal)),
     }
-}
-
-/// Reads an input, and answers the bytes that it is of.
-fn read_source<R: Source>(alloc: Global, reader: &mut R) -> Result<Vec<u8>, Fault>
-    ensures { MatchResult result
-        (λ bytes. IsSourceRead R.gives reader.old reader.new (Ok bytes.items))
-        (λ fault. IsSourceRead R.gives reader.old reader.new (Err fault)) }
-{
-    read_object(alloc, reader)
 }
 
 /// Reads the file that was opened, and answers the bytes that it is of.

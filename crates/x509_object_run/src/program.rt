@@ -11,7 +11,7 @@ use crate::below;
 use crate::below::Inputs;
 use crate::console::Console;
 use crate::files::Opener;
-use crate::messages::{complain_of_memory, say, say_version, tell_misuse};
+use crate::messages::{complain_shortly, say, say_version, tell_misuse};
 use crate::printer::{Asked, Printer};
 use crate::shown::do_all;
 use crate::words::{has_option, split};
@@ -22,7 +22,7 @@ use x509_tool_run::{Sink, Source};
 pub fn refuse_memory<P: Printer, E: Sink>(errors: &mut E) -> u8
     ensures { IsTold E.takes errors.old (short_complaint P.program.name (fault_text [] Memory)) errors.new × (result ≡ 2) }
 {
-    complain_of_memory::<P, E>(errors);
+    complain_shortly::<P, E>(errors, b"out of memory");
     2
 }
 

@@ -1,7 +1,7 @@
 //! What is printed of an input.
 
 ghost use Rattle.std.specs.Cow.{cow_str_bytes};
-ghost use Rattle.std.specs.Prelude.{◌≡◌, ℕ, [], IfOk, Option, map, max, string_bytes};
+ghost use Rattle.std.specs.Prelude.{◌≡◌, ℕ, [], IfOk, Option, map, string_bytes};
 ghost use Rattle.std.specs.Result.{result_map_both};
 ghost use Rattle.x509_object_run.specs.Faults.{complaint, fault_text, told_text};
 ghost use Rattle.x509_object_run.specs.Object.{AreShown, heading_for};
@@ -277,12 +277,6 @@ fn do_one<P: Printer, R: Source, F: Source + Drop, O: Opener<F>, W: Sink, E: Con
     )
 }
 
-pub(crate) fn greater_of(first: u8, second: u8) -> u8
-    ensures { result ≡ max first second }
-{
-    if first < second { second } else { first }
-}
-
 /// Does so for inputs one after the other, and answers the greatest status.
 pub(crate) fn do_all<P: Printer, R: Source, F: Source + Drop, O: Opener<F>, W: Sink, E: Console>(
     alloc: Global,
@@ -301,7 +295,7 @@ pub(crate) fn do_all<P: Printer, R: Source, F: Source + Drop, O: Opener<F>, W: S
     for name in names {
         let name = name.as_str();
         let status = do_one(alloc, printer, headed, name, opener, reader, writer, errors);
-        worst = greater_of(worst, status);
+        worst = worst.max(status);
     }
     worst
 }

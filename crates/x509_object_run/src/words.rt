@@ -1,7 +1,6 @@
 //! The words of a program over objects: options, and names of inputs.
 
-ghost use Rattle.std.specs.List.{list_any};
-ghost use Rattle.std.specs.Prelude.{◌≡◌, IfOk, bytes_eq, map, string_bytes};
+ghost use Rattle.std.specs.Prelude.{◌≡◌, IfOk, map, string_bytes};
 ghost use Rattle.x509_object_run.specs.Words.{has_option, is_option, names_of, options_of, part_of};
 
 use std::alloc::{AllocError, Global};
@@ -17,7 +16,7 @@ pub struct Words<'a> {
 }
 
 /// What a word is.
-#[derive(Clone, Copy, Debug, PartialEq, Eq)]
+#[derive(Clone, Copy)]
 enum Part {
     /// An option.
     Option,
@@ -75,22 +74,9 @@ pub fn split(alloc: Global, words: &[String]) -> Result<Words<'_>, AllocError>
     Ok(Words { options, names })
 }
 
-/// Whether two words are the same.
-fn is(other: &str, option: &str) -> bool
-    ensures { result ≡ bytes_eq other.now option.now }
-{
-    other == option
-}
-
-fn any_is(options: &[&str], option: &str) -> bool
-    ensures { result ≡ list_any (λ other. bytes_eq other.now option.now) options.now }
-{
-    options.iter().any(|other| is(other, option))
-}
-
 /// Whether an option stands among options.
-pub(crate) fn has_option(options: &[&str], option: &str) -> bool
+pub fn has_option(options: &[&str], option: &str) -> bool
     ensures { result ≡ has_option option.now (map (λ other. other.now) options.now) }
 {
-    any_is(options, option)
+    options.contains(&option)
 }

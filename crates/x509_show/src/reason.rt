@@ -12,7 +12,7 @@ use x509_object_run::{Fault, fault_words};
 use x509_sct::TlsError;
 
 /// Why not all is written that the SCTs of a certificate are signatures of.
-#[derive(Clone, Copy, Debug, PartialEq, Eq)]
+#[derive(Clone, Copy)]
 pub(crate) enum Reason {
     /// It isn't read, or is no certificate; or the output can't be written, or memory is refused.
     Fault(Fault),

@@ -35,7 +35,7 @@ Status: 0 where each input is printed, 2 where one is refused or the words are w
 ";
 
 /// What is printed, which the words tell: objects of one kind, or of any, as a text for people or with `--json` as JSON.
-#[derive(Clone, Copy, Debug, PartialEq, Eq)]
+#[derive(Clone, Copy)]
 pub(crate) struct Show {
     kind: Option<Kind>,
     style: Style,

@@ -6,3 +6,4 @@ pub mod Known
 mod GivenWords
 pub mod Paths
 pub mod PemLines
+mod KindWords

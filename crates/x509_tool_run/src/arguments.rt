@@ -21,20 +21,33 @@ pub trait Arguments {
         ensures { IfOk result (λ found. gives self.now place (option_map (λ bytes. bytes.items) found)) };
 }
 
+/// The bytes of the argument at a place, where they are as many as `size` or fewer.
+fn argument_within<E: Env>(
+    alloc: Global,
+    env: &E,
+    place: usize,
+    size: usize,
+) -> Result<Result<Vec<u8>, FillError>, AllocError> {
+    let mut bytes = Vec::new(alloc);
+    bytes.resize(size, 0u8)?;
+    match env.arg(place, bytes.as_mut_slice()) {
+        Ok(length) => {
+            bytes.truncate(length);
+            Ok(Ok(bytes))
+        }
+        Err(e) => Ok(Err(e)),
+    }
+}
+
 /// What std says of an argument leaves open what it is.
 impl<E: Env> Arguments for E {
     ghost gives = { λ env place found. Unit {0} };
 
     fn argument(&self, alloc: Global, place: usize) -> Result<Option<Vec<u8>>, AllocError> {
-        let mut room = Vec::new(alloc);
         let mut size = 64usize;
         for _ in 0..usize::BITS {
-            room.resize(size, 0u8)?;
-            match self.arg(place, room.as_mut_slice()) {
-                Ok(length) => {
-                    room.truncate(length);
-                    return Ok(Some(room));
-                }
+            match argument_within(alloc, self, place, size)? {
+                Ok(argument) => return Ok(Some(argument)),
                 Err(FillError::NotPresent) => return Ok(None),
                 Err(FillError::TooLong) => size = size.saturating_mul(2),
             }

@@ -1,13 +1,13 @@
 //! What the words after the program's name ask for.
 
 ghost use Rattle.std.specs.Option.{option_map};
-ghost use Rattle.std.specs.Prelude.{◌≡◌, map, string_bytes, ◌∷◌, []};
-ghost use Rattle.x509_tool_run.specs.Command.{kind_of, type_name, name_command_of, command_of, is_path, accepted_by, path_of};
+ghost use Rattle.std.specs.Prelude.{◌≡◌, None, bytes_eq, codes, if◌then◌else◌, map, string_bytes};
+ghost use Rattle.x509_tool_run.specs.Command.{kind_of, type_name, name_command_of, command_of, reencoding_of, path_of};
 
 use x509_codec::{ProfileName, Signatures};
 
 /// A type whose encodings the program decodes.
-#[derive(Clone, Copy, Debug, PartialEq, Eq)]
+#[derive(Clone, Copy)]
 pub enum Kind {
     /// A trust anchor.
     Anchor,
@@ -53,7 +53,7 @@ pub enum Kind {
 }
 
 /// What the program is asked to do.
-#[derive(Clone, Copy, Debug, PartialEq, Eq)]
+#[derive(Clone, Copy)]
 pub enum Command {
     /// Decode the bytes of the line, and encode the value again.
     Reencode(Kind, ProfileName),
@@ -65,28 +65,37 @@ pub enum Command {
     EncodeName,
 }
 
+/// The words that name types.
+static KINDS: [(&str, Kind); 14] = [
+    ("anchor", Kind::Anchor),
+    ("any", Kind::Any),
+    ("certificate", Kind::Certificate),
+    ("crl", Kind::Crl),
+    ("extensions", Kind::Extensions),
+    ("general-names", Kind::GeneralNames),
+    ("integer", Kind::Integer),
+    ("name", Kind::Name),
+    ("oid", Kind::Oid),
+    ("rdn", Kind::Rdn),
+    ("request", Kind::Request),
+    ("serial", Kind::Serial),
+    ("time", Kind::Time),
+    ("validity", Kind::Validity),
+];
+
 impl Kind {
     /// The type that a word names.
     pub fn from_word(word: &str) -> Option<Kind>
         ensures { result ≡ kind_of word.now }
     {
-        match word {
-            "anchor" => Some(Kind::Anchor),
-            "any" => Some(Kind::Any),
-            "certificate" => Some(Kind::Certificate),
-            "crl" => Some(Kind::Crl),
-            "extensions" => Some(Kind::Extensions),
-            "general-names" => Some(Kind::GeneralNames),
-            "integer" => Some(Kind::Integer),
-            "name" => Some(Kind::Name),
-            "oid" => Some(Kind::Oid),
-            "rdn" => Some(Kind::Rdn),
-            "request" => Some(Kind::Request),
-            "serial" => Some(Kind::Serial),
-            "time" => Some(Kind::Time),
-            "validity" => Some(Kind::Validity),
-            _ => None,
+        let mut rows: &[(&str, Kind)] = &KINDS;
+        while let [row, rest @ ..] = rows {
+            if word == row.0 {
+                return Some(row.1);
+            }
+            rows = rest;
         }
+        None
     }
 
     /// The name of the type in the table of types.
@@ -119,10 +128,16 @@ impl Command {
     {
         match words {
             [command] => Command::over_names(command.as_str()),
-            [command, kind] => Command::reencode(command.as_str(), kind.as_str(), "rfc5280"),
-            [command, kind, profile] => {
-                Command::reencode(command.as_str(), kind.as_str(), profile.as_str())
-            }
+            [command, kind] => reencoding(
+                command.as_str(),
+                Kind::from_word(kind.as_str()),
+                Some(ProfileName::Rfc5280),
+            ),
+            [command, kind, profile] => reencoding(
+                command.as_str(),
+                Kind::from_word(kind.as_str()),
+                ProfileName::from_word(profile.as_str()),
+            ),
             _ => None,
         }
     }
@@ -136,29 +151,16 @@ impl Command {
             _ => None,
         }
     }
+}
 
-    fn reencode(command: &str, kind: &str, profile: &str) -> Option<Command>
-        ensures { result ≡ command_of (command.now ∷ kind.now ∷ profile.now ∷ []) }
-    {
-        if command != "reencode" {
-            return None;
+/// A re-encoding, where the command is one and both of its words are names.
+fn reencoding(command: &str, kind: Option<Kind>, profile: Option<ProfileName>) -> Option<Command>
+    ensures { result ≡ (if bytes_eq command.now (codes "reencode") then reencoding_of kind profile else None) }
+{
+    match (kind, profile) {
+        (Some(kind), Some(profile)) if command == "reencode" => {
+            Some(Command::Reencode(kind, profile))
         }
-        Some(Command::Reencode(Kind::from_word(kind)?, ProfileName::from_word(profile)?))
-    }
-}
-
-fn is_path(word: &str) -> bool
-    ensures { result ≡ is_path word.now }
-{
-    word == "path"
-}
-
-/// Which signatures are accepted by a word between `path` and the moment.
-fn accepted_by(word: &str) -> Option<Signatures>
-    ensures { result ≡ accepted_by word.now }
-{
-    match word {
-        "--any-signature" => Some(Signatures::Any),
         _ => None,
     }
 }
@@ -167,12 +169,16 @@ fn accepted_by(word: &str) -> Option<Signatures>
 pub fn path_asked(words: &[String]) -> Option<(Signatures, &str)>
     ensures { option_map (λ asked. (asked.0, asked.1.now)) result ≡ path_of (map string_bytes words.now) }
 {
-    match words {
-        [command, moment] if is_path(command.as_str()) => {
-            Some((Signatures::Echoes, moment.as_str()))
-        }
-        [command, option, moment] if is_path(command.as_str()) => {
-            Some((accepted_by(option.as_str())?, moment.as_str()))
+    let [command, others @ ..] = words else {
+        return None;
+    };
+    if command.as_str() != "path" {
+        return None;
+    }
+    match others {
+        [moment] => Some((Signatures::Echoes, moment.as_str())),
+        [option, moment] if option.as_str() == "--any-signature" => {
+            Some((Signatures::Any, moment.as_str()))
         }
         _ => None,
     }

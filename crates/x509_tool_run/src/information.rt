@@ -35,7 +35,7 @@ can't be written, 2 for other words.
 ";
 
 /// What the program may be asked about itself.
-#[derive(Clone, Copy, Debug, PartialEq, Eq)]
+#[derive(Clone, Copy)]
 pub enum Information {
     /// How it is called, and what it does.
     Help,

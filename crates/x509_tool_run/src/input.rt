@@ -16,7 +16,7 @@ pub const INPUT_LIMIT: usize = 16_777_216;
 pub const READ_LIMIT: usize = 16_777_217;
 
 /// A read failed.
-#[derive(Clone, Copy, Debug, PartialEq, Eq)]
+#[derive(Clone, Copy)]
 pub struct ReadError;
 
 /// What an input is read from.

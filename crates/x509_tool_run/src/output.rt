@@ -8,7 +8,7 @@ ghost use Rattle.x509_tool_run.specs.Program.{IsWritten, IsCutOff};
 use std::io;
 
 /// A write failed, or took no bytes.
-#[derive(Clone, Copy, Debug, PartialEq, Eq)]
+#[derive(Clone, Copy)]
 pub struct WriteError;
 
 /// What a line is written to.

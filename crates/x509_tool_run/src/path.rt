@@ -1,11 +1,11 @@
 //! The answer to a path of certificates: whether it holds, or its first fault.
 
-ghost use Rattle.std.specs.Prelude.{◌≡◌, ◌⊎◌, ℕ, List, map, string_bytes, Option, Some, None, Ok, Err, MatchResult, IfOk, IfErr};
+ghost use Rattle.std.specs.Prelude.{◌≡◌, ◌==◌, ◌⊎◌, ℕ, List, map, string_bytes, Option, Some, None, Ok, Err, MatchResult, IfOk, IfErr};
 ghost use Rattle.std.specs.Option.{option_map};
 ghost use Rattle.x509_der.specs.declared.error.ErrorKind.TheVariants.{Memory, Failed};
 ghost use Rattle.x509_tool_run.specs.declared.refusal.Refusal.TheVariants.{Because};
 ghost use Rattle.x509_tool_run.specs.Answer.{as_line};
-ghost use Rattle.x509_tool_run.specs.Path.{IsPathLine, certificates_of, decode_all, fault_line, fault_text, texts_of};
+ghost use Rattle.x509_tool_run.specs.Path.{IsPathLine, IsVerdict, certificates_of, decode_all, fault_line, fault_text, texts_of};
 ghost use Rattle.x509_tool_run.specs.Program.{Answers};
 
 use crate::input::{Source, read_input};
@@ -16,11 +16,17 @@ use std::alloc::{AllocError, Global};
 use x509_codec::{PathCodec, Signatures};
 use x509_der::ErrorKind;
 
+fn is_space(byte: &u8) -> bool
+    ensures { result ≡ (byte.now == 32) }
+{
+    *byte == b' '
+}
+
 /// The texts between single spaces.
 fn texts_of(alloc: Global, line: &[u8]) -> Result<Vec<&[u8]>, AllocError>
     ensures { IfOk result (λ texts. map (λ text. text.now) texts.items ≡ texts_of line.now) }
 {
-    line.split(|byte| *byte == b' ').collect(alloc)
+    line.split(is_space).collect(alloc)
 }
 
 /// The bytes that the texts stand for, each of which is hex text.
@@ -61,6 +67,26 @@ fn certificates_of(alloc: Global, line: &[u8]) -> Result<Vec<Vec<u8>>, Refusal>
     }
 }
 
+/// The first fault of a path, if it has one: the anchor's certificate stands in front of one or more others.
+fn check_certificates<C: PathCodec>(
+    alloc: Global,
+    accepted: Signatures,
+    moment: &str,
+    certificates: &[Vec<u8>],
+) -> Result<Option<String>, Refusal>
+    ensures { MatchResult result
+        (λ fault. IsVerdict (C.checks_path accepted) moment.now (Some (map (λ bytes. bytes.items) certificates.now)) (Ok (option_map string_bytes fault)))
+        (λ refusal. (refusal ≡ Because Memory)
+        ⊎ IsVerdict (C.checks_path accepted) moment.now (Some (map (λ bytes. bytes.items) certificates.now)) (Err refusal)) }
+{
+    match certificates {
+        [anchor, path @ ..] if !path.is_empty() => {
+            Ok(C::check_path(alloc, accepted, moment, anchor.as_slice(), path)?)
+        }
+        _ => Err(Refusal::Because(ErrorKind::Failed)),
+    }
+}
+
 /// The first fault of the path whose certificates a line has, if it has one.
 fn check_line<C: PathCodec>(
     alloc: Global,
@@ -73,13 +99,7 @@ fn check_line<C: PathCodec>(
         (λ refusal. (refusal ≡ Because Memory) ⊎ IsPathLine (C.checks_path accepted) moment.now line.now (Err refusal)) }
 {
     let certificates = certificates_of(alloc, line)?;
-    let [anchor, path @ ..] = certificates.as_slice() else {
-        return Err(Refusal::Because(ErrorKind::Failed));
-    };
-    if path.is_empty() {
-        return Err(Refusal::Because(ErrorKind::Failed));
-    }
-    Ok(C::check_path(alloc, accepted, moment, anchor.as_slice(), path)?)
+    check_certificates::<C>(alloc, accepted, moment, certificates.as_slice())
 }
 
 /// The line that tells of a fault.

@@ -15,7 +15,7 @@ use base64::engine::general_purpose::STANDARD;
 use std::alloc::{AllocError, Global};
 
 /// Why a text stands for no bytes.
-#[derive(Clone, Copy, Debug, PartialEq, Eq)]
+#[derive(Clone, Copy)]
 pub(crate) enum Unread {
     /// It is no base64.
     Malformed,
@@ -25,8 +25,8 @@ pub(crate) enum Unread {
 }
 
 /// Whether an octet is one that no text has.
-fn is_binary(byte: u8) -> bool
-    ensures { result ≡ is_binary byte }
+fn is_binary(byte: &u8) -> bool
+    ensures { result ≡ is_binary byte.now }
 {
     byte.is_ascii_control() && !byte.is_ascii_whitespace()
 }
@@ -34,14 +34,14 @@ fn is_binary(byte: u8) -> bool
 pub(crate) fn has_binary(input: &[u8]) -> bool
     ensures { result ≡ list_any is_binary input.now }
 {
-    input.iter().any(|byte| is_binary(*byte))
+    input.iter().any(is_binary)
 }
 
 /// Whether an octet ends a line.
-pub fn ends_line(byte: u8) -> bool
-    ensures { result ≡ ends_line byte }
+pub fn ends_line(byte: &u8) -> bool
+    ensures { result ≡ ends_line byte.now }
 {
-    byte == b'\r' || byte == b'\n'
+    *byte == b'\r' || *byte == b'\n'
 }
 
 /// A line without the white space at its end.
@@ -90,7 +90,7 @@ fn objects_of(alloc: Global, text: &[u8]) -> Result<Option<Vec<Vec<u8>>>, AllocE
     let mut objects = Vec::new(alloc);
     let mut label: Option<&[u8]> = None;
     let mut digits = Vec::new(alloc);
-    for line in text.split(|byte| ends_line(*byte)) {
+    for line in text.split(ends_line) {
         let line = trimmed(line);
         match label {
             None => label = label_of(line),

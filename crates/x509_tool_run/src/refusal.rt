@@ -8,7 +8,7 @@ use std::alloc::AllocError;
 use x509_der::{Error, ErrorKind};
 
 /// Why an input is refused.
-#[derive(Clone, Copy, Debug, PartialEq, Eq)]
+#[derive(Clone, Copy)]
 pub enum Refusal {
     /// A read failed.
     Read,

@@ -12,7 +12,7 @@ use crate::pem::{Unread, decode, has_binary, is_end, label_of, trimmed};
 use std::alloc::{AllocError, Global};
 
 /// Why a text of PEM has no object.
-#[derive(Clone, Copy, Debug, PartialEq, Eq)]
+#[derive(Clone, Copy)]
 pub enum Broken {
     /// No line ends it.
     NoEnd,
@@ -25,7 +25,7 @@ pub enum Broken {
 }
 
 /// Where lines of an input lead to.
-#[derive(Clone, Copy, Debug, PartialEq, Eq)]
+#[derive(Clone, Copy)]
 pub enum Stage {
     /// No line begins a text, and none has an octet that no text has.
     Before,
@@ -41,7 +41,7 @@ pub enum Stage {
 }
 
 /// Reads the lines of an input one after the other.
-#[derive(Debug, Drop)]
+#[derive(Drop)]
 pub struct Scan {
     stage: Stage,
     label: Vec<u8>,
