@@ -108,28 +108,28 @@ policy_sentence rules.CpsPointerNotUri =
     (λ c v. passes (λ p. list_any (has_faulty_pointer NoUri) p.0) v.certificate_policies)
 policy_sentence rules.UserNoticeMalformed =
     must (codes "user_notice_malformed") (codes "4.2.1.4") (codes "tbsCertificate.extensions.certificatePolicies")
-    (λ c v. v.has_unread_notice)
+    (λ c v. v.notices.has_unread_notice)
 policy_sentence rules.ExplicitTextTooLong =
     must (codes "explicit_text_too_long") (codes "4.2.1.4") (codes "tbsCertificate.extensions.certificatePolicies")
-    (λ c v. v.has_long_text)
+    (λ c v. v.notices.has_long_text)
 policy_sentence rules.ExplicitTextEmpty =
     must (codes "explicit_text_empty") (codes "4.2.1.4") (codes "tbsCertificate.extensions.certificatePolicies")
-    (λ c v. v.has_empty_text)
+    (λ c v. v.notices.has_empty_text)
 policy_sentence rules.ExplicitTextType =
     must_of (codes "RFC 6818") (codes "explicit_text_type") (codes "3") (codes "tbsCertificate.extensions.certificatePolicies")
-    (λ c v. v.has_ia5_text)
+    (λ c v. v.notices.has_ia5_text)
 policy_sentence rules.ExplicitTextNotUtf8String =
     should_of (codes "RFC 6818") (codes "explicit_text_not_utf8_string") (codes "3") (codes "tbsCertificate.extensions.certificatePolicies")
-    (λ c v. v.has_old_text)
+    (λ c v. v.notices.has_old_text)
 policy_sentence rules.ExplicitTextControl =
     should (codes "explicit_text_control") (codes "4.2.1.4") (codes "tbsCertificate.extensions.certificatePolicies")
-    (λ c v. v.has_control)
+    (λ c v. v.notices.has_control)
 policy_sentence rules.NoticeReferencePresent =
     should (codes "notice_reference_present") (codes "4.2.1.4") (codes "tbsCertificate.extensions.certificatePolicies")
-    (λ c v. v.has_reference)
+    (λ c v. v.notices.has_reference)
 policy_sentence rules.ExplicitTextNotNormalized =
     should (codes "explicit_text_not_normalized") (codes "4.2.1.4") (codes "tbsCertificate.extensions.certificatePolicies")
-    (λ c v. v.has_unnormalized)
+    (λ c v. v.notices.has_unnormalized)
 policy_sentence rules.CertificatePoliciesNotJudged =
     not_judged (codes "certificate_policies_not_read") (codes "4.2.1.4") (codes "tbsCertificate.extensions.certificatePolicies")
     (λ c v. is_unjudged (id_ce 32) Identifiers (extensions_of c) (is_some v.certificate_policies))

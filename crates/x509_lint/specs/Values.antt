@@ -45,6 +45,7 @@ use Rattle.x509_lint.specs.declared.values.AuthorityValues.{AuthorityValues}
 use Rattle.x509_lint.specs.declared.values.ConstraintValues.{ConstraintValues}
 use Rattle.x509_lint.specs.declared.values.CrlValues.{CrlValues}
 use Rattle.x509_lint.specs.declared.values.KeyValues.{KeyValues}
+use Rattle.x509_lint.specs.declared.values.NoticeFaults.{NoticeFaults}
 use Rattle.x509_lint.specs.declared.values.PointValues.{PointValues}
 use Rattle.x509_lint.specs.declared.values.PolicyValues.{PolicyValues}
 use Rattle.x509_lint.specs.declared.values.PublicKeyValues.{PublicKeyValues}
@@ -95,20 +96,21 @@ AreAlternativeValues extensions v =
     × (v.has_unnormalized_subject ≡ passes (λ s. list_any is_unnormalized_name s.0) v.subject_alt_name)
     × (v.has_unnormalized_issuer ≡ passes (λ s. list_any is_unnormalized_name s.0) v.issuer_alt_name)
 
+-- which faults some user notice has
+abbrev pub AreNoticeFaults : Option CertificatePolicies → NoticeFaults → Type 0
+AreNoticeFaults policies faults =
+    (faults.has_long_text ≡ has_faulty_notice Long policies) × (faults.has_empty_text ≡ has_faulty_notice NoText policies)
+    × (faults.has_old_text ≡ has_faulty_notice OldType policies) × (faults.has_ia5_text ≡ has_faulty_notice Ia5Type policies)
+    × (faults.has_control ≡ has_faulty_notice Control policies) × (faults.has_reference ≡ has_faulty_notice Reference policies)
+    × (faults.has_unnormalized ≡ has_faulty_notice Unnormalized policies) × (faults.has_unread_notice ≡ has_faulty_notice Unread policies)
+
 abbrev pub ArePolicyValues : List Extension → PolicyValues → Type 0
 ArePolicyValues extensions v =
     IsValue certificate_policies (id_ce 32) extensions v.certificate_policies
     × IsValue policy_mappings (id_ce 33) extensions v.policy_mappings
     × IsValue any_policy_constraints (id_ce 36) extensions v.policy_constraints
     × (IsTrue v.are_policies_distinct ↔ AreDistinct (policy_identifiers (policies_of v.certificate_policies)))
-    × (v.has_long_text ≡ has_faulty_notice Long v.certificate_policies)
-    × (v.has_empty_text ≡ has_faulty_notice NoText v.certificate_policies)
-    × (v.has_old_text ≡ has_faulty_notice OldType v.certificate_policies)
-    × (v.has_ia5_text ≡ has_faulty_notice Ia5Type v.certificate_policies)
-    × (v.has_control ≡ has_faulty_notice Control v.certificate_policies)
-    × (v.has_reference ≡ has_faulty_notice Reference v.certificate_policies)
-    × (v.has_unnormalized ≡ has_faulty_notice Unnormalized v.certificate_policies)
-    × (v.has_unread_notice ≡ has_faulty_notice Unread v.certificate_policies)
+    × AreNoticeFaults v.certificate_policies v.notices
     × (v.has_unasserted_mapping ≡ has_unasserted (policies_of v.certificate_policies) v.policy_mappings)
 
 abbrev pub AreConstraintValues : List Extension → ConstraintValues → Type 0

@@ -3,9 +3,7 @@
 
 ghost use Rattle.std.specs.Prelude.{◌≡◌, IfOk, IfErr};
 ghost use Rattle.x509_der.specs.declared.error.ErrorKind.TheVariants.{Memory};
-ghost use Rattle.x509_lint.specs.Notices.{has_faulty_notice};
-ghost use Rattle.x509_lint.specs.Values.{AreAlternativeValues, AreAuthorityValues, AreConstraintValues, AreCrlValues, AreKeyValues, ArePointValues, ArePolicyValues, ArePublicKeyValues};
-ghost use Rattle.x509_lint.specs.declared.notices.NoticeFault.TheVariants.{Long, NoText, OldType, Ia5Type, Control, Reference, Unnormalized, Unread};
+ghost use Rattle.x509_lint.specs.Values.{AreAlternativeValues, AreAuthorityValues, AreConstraintValues, AreCrlValues, AreKeyValues, AreNoticeFaults, ArePointValues, ArePolicyValues, ArePublicKeyValues};
 
 use crate::asserted::has_unasserted;
 use crate::basic_constraints::AnyBasicConstraints;
@@ -168,7 +166,30 @@ pub(crate) struct PolicyValues {
     /// No policy is there twice.
     pub(crate) are_policies_distinct: bool,
 
-    /// Some user notice among the qualifiers has an explicit text over 200 characters.
+    /// What is wrong with user notices among the qualifiers.
+    pub(crate) notices: NoticeFaults,
+
+    /// The issuerDomainPolicy of some mapping is none of the policies.
+    pub(crate) has_unasserted_mapping: bool,
+}
+
+impl Drop for PolicyValues {
+    fn drop(self) {
+        let PolicyValues {
+            certificate_policies: _,
+            policy_mappings: _,
+            policy_constraints: _,
+            are_policies_distinct: _,
+            notices: _,
+            has_unasserted_mapping: _,
+        } = self;
+    }
+}
+
+/// Which faults some user notice among the qualifiers has.
+#[derive(Clone, Copy)]
+pub(crate) struct NoticeFaults {
+    /// One has an explicit text over 200 characters.
     pub(crate) has_long_text: bool,
 
     /// One has an explicit text of no characters.
@@ -191,53 +212,13 @@ pub(crate) struct PolicyValues {
 
     /// The qualifier of one isn't a user notice.
     pub(crate) has_unread_notice: bool,
-
-    /// The issuerDomainPolicy of some mapping is none of the policies.
-    pub(crate) has_unasserted_mapping: bool,
-}
-
-impl Drop for PolicyValues {
-    fn drop(self) {
-        let PolicyValues {
-            certificate_policies: _,
-            policy_mappings: _,
-            policy_constraints: _,
-            are_policies_distinct: _,
-            has_long_text: _,
-            has_empty_text: _,
-            has_old_text: _,
-            has_ia5_text: _,
-            has_control: _,
-            has_reference: _,
-            has_unnormalized: _,
-            has_unread_notice: _,
-            has_unasserted_mapping: _,
-        } = self;
-    }
-}
-
-/// Which faults some user notice among the qualifiers has; each as in [`PolicyValues`].
-#[derive(Clone, Copy)]
-struct NoticeFaults {
-    has_long_text: bool,
-    has_empty_text: bool,
-    has_old_text: bool,
-    has_ia5_text: bool,
-    has_control: bool,
-    has_reference: bool,
-    has_unnormalized: bool,
-    has_unread_notice: bool,
 }
 
 fn notice_faults(
     alloc: Global,
     policies: &Option<CertificatePolicies>,
 ) -> Result<NoticeFaults, Error>
-    ensures ok { IfOk result (λ faults. (faults.has_long_text ≡ has_faulty_notice Long policies.now)
-        × (faults.has_empty_text ≡ has_faulty_notice NoText policies.now) × (faults.has_old_text ≡ has_faulty_notice OldType policies.now)
-        × (faults.has_ia5_text ≡ has_faulty_notice Ia5Type policies.now) × (faults.has_control ≡ has_faulty_notice Control policies.now)
-        × (faults.has_reference ≡ has_faulty_notice Reference policies.now) × (faults.has_unnormalized ≡ has_faulty_notice Unnormalized policies.now)
-        × (faults.has_unread_notice ≡ has_faulty_notice Unread policies.now)) }
+    ensures ok { IfOk result (AreNoticeFaults policies.now) }
     ensures err { IfErr result (λ e. e.kind ≡ Memory) }
 {
     Ok(NoticeFaults {
@@ -270,14 +251,7 @@ fn policy_values(alloc: Global, extensions: &[Extension]) -> Result<PolicyValues
         policy_mappings,
         policy_constraints: payload(alloc, extensions)?,
         are_policies_distinct,
-        has_long_text: notices.has_long_text,
-        has_empty_text: notices.has_empty_text,
-        has_old_text: notices.has_old_text,
-        has_ia5_text: notices.has_ia5_text,
-        has_control: notices.has_control,
-        has_reference: notices.has_reference,
-        has_unnormalized: notices.has_unnormalized,
-        has_unread_notice: notices.has_unread_notice,
+        notices,
         has_unasserted_mapping,
     })
 }

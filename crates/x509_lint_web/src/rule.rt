@@ -46,7 +46,7 @@ pub use validity::WebValidityRule;
 
 /// A rule of the Baseline Requirements for TLS server certificates (TLS BR) of the CA/Browser Forum. It is printed as
 /// `error subject_alt_name_absent (TLS BR 7.1.2.7.12)`.
-#[derive(Clone, Copy, Debug, PartialEq, Eq)]
+#[derive(Clone, Copy, PartialEq, Eq)]
 pub enum WebRule {
     /// On any certificate: its version, signature, key identifier and CRL distribution points.
     Field(WebFieldRule),
@@ -356,6 +356,15 @@ impl WebRule {
             WebRule::Precertificate(rule) => rule.is_broken(certificate, values),
             WebRule::Constrained(rule) => rule.is_broken(certificate, values),
         }
+    }
+}
+
+impl fmt::Debug for WebRule {
+    ghost debug_output = { λ rule. Some (web_sentence rule).wording.name };
+
+    /// Its name.
+    fn fmt<W: fmt::Write>(&self, f: &mut fmt::Formatter<W>) -> fmt::Result {
+        f.write_str(self.name())
     }
 }
 

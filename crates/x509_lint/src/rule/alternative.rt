@@ -26,7 +26,7 @@ use x509_ext::pkix::name::GeneralName;
 use x509_ext::pkix::{IssuerAltName, SubjectAltName};
 
 /// Rules on the alternative names of the subject and the issuer (RFC 5280 4.2.1.6, 4.2.1.7).
-#[derive(Clone, Copy, Debug, PartialEq, Eq)]
+#[derive(Clone, Copy, PartialEq, Eq)]
 pub enum AlternativeRule {
     /// The subject has an emailAddress, and there is no SAN with an rfc822Name (RFC 5280 4.1.2.6, error).
     SubjectEmailNotInAltName,

@@ -38,7 +38,7 @@ const MAX_TITLE: usize = 64;
 const MAX_SUBTAG: usize = 8;
 
 /// Rules on the title and the controls of trust anchors (RFC 5914 2, RFC 5280 4.1.2.4, 4.2.1.4).
-#[derive(Clone, Copy, Debug, PartialEq, Eq)]
+#[derive(Clone, Copy, PartialEq, Eq)]
 pub enum AnchorRule {
     /// The title is empty, or has more than 64 characters (RFC 5914 2.4, error).
     TaTitleSize,
@@ -272,7 +272,7 @@ impl Group<TrustAnchorInfo<Raw>, AnchorValues> for ConstraintRule {
 }
 
 /// Rules on the extensions of trust anchors as a list (RFC 5914 2.6, RFC 5280 4.1.2.9, 4.2).
-#[derive(Clone, Copy, Debug, PartialEq, Eq)]
+#[derive(Clone, Copy, PartialEq, Eq)]
 pub enum AnchorExtensionRule {
     /// The list of extensions is there, and has none (RFC 5280 4.1.2.9, error).
     ExtensionsEmpty,

@@ -24,7 +24,7 @@ use x509_ext::{Extension, members};
 use x509_prim::Uint;
 
 /// Rules on what makes a certificate one of a certification authority (RFC 5280 4.2.1.3, 4.2.1.9).
-#[derive(Clone, Copy, Debug, PartialEq, Eq)]
+#[derive(Clone, Copy, PartialEq, Eq)]
 pub enum AuthorityRule {
     /// cA is set, and the subject is the empty name (RFC 5280 4.1.2.6, error).
     CaSubjectEmpty,

@@ -20,7 +20,7 @@ use x509_ext::pkix::NameConstraints;
 use x509_ext::pkix::constraints::name::{GeneralSubtree, GeneralSubtrees};
 
 /// Rules on name constraints (RFC 5280 4.2.1.10).
-#[derive(Clone, Copy, Debug, PartialEq, Eq)]
+#[derive(Clone, Copy, PartialEq, Eq)]
 pub enum ConstraintRule {
     /// The NameConstraints has neither list (RFC 5280 4.2.1.10, error).
     NameConstraintsEmpty,

@@ -20,7 +20,7 @@ use x509_ext::pkix::{
 };
 
 /// Rules on which extensions of a certificate are critical (RFC 5280 4.2.1, 4.2.2).
-#[derive(Clone, Copy, Debug, PartialEq, Eq)]
+#[derive(Clone, Copy, PartialEq, Eq)]
 pub enum CriticalRule {
     /// An AKI is critical (RFC 5280 4.2.1.1, error).
     AuthorityKeyIdentifierCritical,

@@ -18,7 +18,7 @@ use x509_ext::pkix::{BaseCrlNumber, IssuingDistributionPoint};
 use x509_ext::{Extension, members};
 
 /// Rules on the extensions of a CRL's entries (RFC 5280 5.3).
-#[derive(Clone, Copy, Debug, PartialEq, Eq)]
+#[derive(Clone, Copy, PartialEq, Eq)]
 pub enum CrlEntryRule {
     /// The reasonCode of an entry is critical (RFC 5280 5.3.1, error).
     EntryReasonCritical,

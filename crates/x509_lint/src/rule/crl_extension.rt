@@ -22,7 +22,7 @@ use x509_ext::pkix::{
 };
 
 /// Rules on the extensions of a CRL (RFC 5280 5.2).
-#[derive(Clone, Copy, Debug, PartialEq, Eq)]
+#[derive(Clone, Copy, PartialEq, Eq)]
 pub enum CrlExtensionRule {
     /// There is no AKI (RFC 5280 5.2.1, error).
     AuthorityKeyIdentifierAbsent,

@@ -26,7 +26,7 @@ use x509_ext::pkix::{
 };
 
 /// A type of extension that CRLs have (RFC 5280 5.2).
-#[derive(Clone, Copy, Debug, PartialEq, Eq)]
+#[derive(Clone, Copy, PartialEq, Eq)]
 pub enum CrlExtensionKind {
     /// `authorityKeyIdentifier`.
     AuthorityKeyIdentifier,
@@ -103,7 +103,7 @@ impl Group<CertificateList<Raw>, CrlFacts> for CrlExtensionKind {
 }
 
 /// Rules on the fields of a CRL (RFC 5280 5.1).
-#[derive(Clone, Copy, Debug, PartialEq, Eq)]
+#[derive(Clone, Copy, PartialEq, Eq)]
 pub enum CrlFieldRule {
     /// The algorithm in the signed part isn't the one outside it (RFC 5280 5.1.1.2, error).
     SignatureAlgorithmsDiffer,
@@ -294,7 +294,7 @@ impl Group<CertificateList<Raw>, CrlFacts> for CrlFieldRule {
 }
 
 /// Rules on the lists of extensions that a CRL's entries have (RFC 5280 5.3).
-#[derive(Clone, Copy, Debug, PartialEq, Eq)]
+#[derive(Clone, Copy, PartialEq, Eq)]
 pub enum CrlEntryListRule {
     /// The list of an entry's extensions is there, and has none (RFC 5280 5.3, error).
     EntryExtensionsEmpty,

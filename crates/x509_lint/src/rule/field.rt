@@ -16,7 +16,7 @@ use x509_cert::Version;
 use x509_cert::certificate::CertificateInner;
 
 /// Rules on the fields of a certificate (RFC 5280 4.1).
-#[derive(Clone, Copy, Debug, PartialEq, Eq)]
+#[derive(Clone, Copy, PartialEq, Eq)]
 pub enum FieldRule {
     /// The algorithm in the signed part isn't the one outside it (RFC 5280 4.1.1.2, error).
     SignatureAlgorithmsDiffer,

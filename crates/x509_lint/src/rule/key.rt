@@ -21,7 +21,7 @@ use x509_ext::members;
 use x509_ext::pkix::{AuthorityKeyIdentifier, ExtendedKeyUsage, PrivateKeyUsagePeriod};
 
 /// Rules on key identifiers, extended key usage and the private key usage period (RFC 5280 4.2.1.1, 4.2.1.12, A.2).
-#[derive(Clone, Copy, Debug, PartialEq, Eq)]
+#[derive(Clone, Copy, PartialEq, Eq)]
 pub enum KeyRule {
     /// The version is 3, there is no AKI, and the issuer isn't the subject (RFC 5280 4.2.1.1, error).
     AuthorityKeyIdentifierAbsent,

@@ -22,7 +22,7 @@ use x509_ext::pkix::{
 };
 
 /// A type of extension that certificates have (RFC 5280 4.2; the last four are those of other standards).
-#[derive(Clone, Copy, Debug, PartialEq, Eq)]
+#[derive(Clone, Copy, PartialEq, Eq)]
 pub enum ExtensionKind {
     /// `authorityKeyIdentifier`.
     AuthorityKeyIdentifier,
@@ -183,7 +183,7 @@ impl Group<CertificateInner<Raw>, CertificateFacts> for ExtensionKind {
 }
 
 /// Rules on the extensions of a certificate as a list (RFC 5280 4.1.2.9, 4.2).
-#[derive(Clone, Copy, Debug, PartialEq, Eq)]
+#[derive(Clone, Copy, PartialEq, Eq)]
 pub enum ListRule {
     /// The list of extensions is there, and has none (RFC 5280 4.1.2.9, error).
     ExtensionsEmpty,

@@ -16,7 +16,7 @@ use x509_ext::members;
 use x509_ext::pkix::SubjectAltName;
 
 /// Rules on the issuer and the subject of a certificate (RFC 5280 4.1.2.4, 4.1.2.6).
-#[derive(Clone, Copy, Debug, PartialEq, Eq)]
+#[derive(Clone, Copy, PartialEq, Eq)]
 pub enum NameRule {
     /// An RDN of the issuer has no attribute (RFC 5280 4.1.2.4, error).
     IssuerRdnEmpty,

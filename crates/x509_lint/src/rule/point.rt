@@ -29,7 +29,7 @@ use x509_ext::pkix::{
 };
 
 /// Rules on lists of attributes, of CRL distribution points and of access descriptions (RFC 5280 4.2.1.8, 4.2.1.13, 4.2.1.15, 4.2.2, RFC 6960 3.1).
-#[derive(Clone, Copy, Debug, PartialEq, Eq)]
+#[derive(Clone, Copy, PartialEq, Eq)]
 pub enum PointRule {
     /// The SubjectDirectoryAttributes has no attribute (RFC 5280 4.2.1.8, error).
     SubjectDirectoryAttributesEmpty,

@@ -26,7 +26,7 @@ use x509_ext::pkix::certpolicy::{PolicyInformation, PolicyQualifierInfo};
 use x509_ext::pkix::{CertificatePolicies, PolicyMapping, PolicyMappings};
 
 /// Rules on certificate policies, policy mappings and policy constraints (RFC 5280 4.2.1.4, 4.2.1.5, 4.2.1.11).
-#[derive(Clone, Copy, Debug, PartialEq, Eq)]
+#[derive(Clone, Copy, PartialEq, Eq)]
 pub enum PolicyRule {
     /// The CertificatePolicies has no policy (RFC 5280 4.2.1.4, error).
     CertificatePoliciesEmpty,
@@ -299,14 +299,14 @@ impl Group<CertificateInner<Raw>, PolicyValues> for PolicyRule {
             PolicyRule::PolicyQualifierOther => has_policy(&OtherOfPolicy, values),
             PolicyRule::CpsPointerMalformed => has_policy(&PointerFault::NoText, values),
             PolicyRule::CpsPointerNotUri => has_policy(&PointerFault::NoUri, values),
-            PolicyRule::UserNoticeMalformed => values.has_unread_notice,
-            PolicyRule::ExplicitTextTooLong => values.has_long_text,
-            PolicyRule::ExplicitTextEmpty => values.has_empty_text,
-            PolicyRule::ExplicitTextType => values.has_ia5_text,
-            PolicyRule::ExplicitTextNotUtf8String => values.has_old_text,
-            PolicyRule::ExplicitTextControl => values.has_control,
-            PolicyRule::NoticeReferencePresent => values.has_reference,
-            PolicyRule::ExplicitTextNotNormalized => values.has_unnormalized,
+            PolicyRule::UserNoticeMalformed => values.notices.has_unread_notice,
+            PolicyRule::ExplicitTextTooLong => values.notices.has_long_text,
+            PolicyRule::ExplicitTextEmpty => values.notices.has_empty_text,
+            PolicyRule::ExplicitTextType => values.notices.has_ia5_text,
+            PolicyRule::ExplicitTextNotUtf8String => values.notices.has_old_text,
+            PolicyRule::ExplicitTextControl => values.notices.has_control,
+            PolicyRule::NoticeReferencePresent => values.notices.has_reference,
+            PolicyRule::ExplicitTextNotNormalized => values.notices.has_unnormalized,
             PolicyRule::CertificatePoliciesNotJudged => is_unjudged::<CertificatePolicies>(
                 Beyond::Identifiers,
                 extensions_of(certificate),

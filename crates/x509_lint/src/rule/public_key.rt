@@ -17,7 +17,7 @@ use x509_base::Raw;
 use x509_cert::certificate::CertificateInner;
 
 /// Rules on public keys and on algorithms of signatures (RFC 3279, 4055, 5480, 5758, 8017, 8410, 8813, 9295).
-#[derive(Clone, Copy, Debug, PartialEq, Eq)]
+#[derive(Clone, Copy, PartialEq, Eq)]
 pub enum PublicKeyRule {
     /// The signature is RSASSA-PKCS1-v1_5 over SHA-224, SHA-256, SHA-384 or SHA-512, and its parameters aren't NULL (RFC 4055 5, error).
     RsaSignatureParametersNotNull,

@@ -28,7 +28,7 @@ use x509_ext::pkix::SubjectAltName;
 use x509_name::attr::Attribute;
 
 /// Rules on CSRs (RFC 2986 4.1, RFC 2985 5.4, RFC 5280 4.1.2.6, 4.2).
-#[derive(Clone, Copy, Debug, PartialEq, Eq)]
+#[derive(Clone, Copy, PartialEq, Eq)]
 pub enum RequestRule {
     /// An RDN of the subject has no attribute (RFC 5280 4.1.2.6, error).
     SubjectRdnEmpty,
@@ -246,7 +246,7 @@ impl Group<CertReq, RequestValues> for ExtensionKind {
 }
 
 /// Rules on the SAN that a CSR asks for (RFC 5280 4.2.1.6).
-#[derive(Clone, Copy, Debug, PartialEq, Eq)]
+#[derive(Clone, Copy, PartialEq, Eq)]
 pub enum RequestNameRule {
     /// The SAN that is asked for has no name (RFC 5280 4.2.1.6, error).
     SubjectAltNameEmpty,

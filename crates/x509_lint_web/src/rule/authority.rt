@@ -21,7 +21,7 @@ use x509_lint::passes;
 use x509_name::attr::attribute_types::{COMMON_NAME, COUNTRY_NAME, ORGANIZATION_NAME};
 
 /// Rules on certificates of authorities that may stand above TLS servers (TLS BR 7.1.2.10, 7.1.2.11.2).
-#[derive(Clone, Copy, Debug, PartialEq, Eq)]
+#[derive(Clone, Copy, PartialEq, Eq)]
 pub enum WebAuthorityRule {
     /// The KeyUsage isn't critical (TLS BR 7.1.2.10.7, error).
     CaKeyUsageNotCritical,

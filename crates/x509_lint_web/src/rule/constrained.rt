@@ -18,7 +18,7 @@ use x509_ext::pkix::{ExtendedKeyUsage, NameConstraints};
 use x509_lint::passes;
 
 /// Rules on certificates of authorities that are constrained by their EKU or by name constraints (TLS BR 7.1.2.3, 7.1.2.5).
-#[derive(Clone, Copy, Debug, PartialEq, Eq)]
+#[derive(Clone, Copy, PartialEq, Eq)]
 pub enum WebConstrainedRule {
     /// The EKU of an authority has neither serverAuth nor the signing of precertificates, and has anyExtendedKeyUsage or
     /// OCSPSigning (TLS BR 7.1.2.3.2, error, from 2023-09-15).

@@ -22,7 +22,7 @@ use x509_lint::lists::any_of;
 use x509_lint::passes;
 
 /// Rules on version, signature, key identifier and CRL distribution points of any certificate (TLS BR 7.1.1, 7.1.3.2, 7.1.2.11).
-#[derive(Clone, Copy, Debug, PartialEq, Eq)]
+#[derive(Clone, Copy, PartialEq, Eq)]
 pub enum WebFieldRule {
     /// The version isn't 3 (TLS BR 7.1.1, error).
     VersionNotV3,

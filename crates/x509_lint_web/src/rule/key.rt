@@ -17,7 +17,7 @@ use x509_base::Raw;
 use x509_cert::certificate::CertificateInner;
 
 /// Rules on public keys (TLS BR 6.1.1.3, 6.1.5, 6.1.6, 7.1.3.1).
-#[derive(Clone, Copy, Debug, PartialEq, Eq)]
+#[derive(Clone, Copy, PartialEq, Eq)]
 pub enum WebKeyRule {
     /// The key is neither one of RSA nor one of an elliptic curve (TLS BR 7.1.3.1, error, from 2020-08-20).
     KeyAlgorithmOther,

@@ -19,7 +19,7 @@ use x509_lint::passes;
 use x509_name::attr::attribute_types::{COMMON_NAME, ORGANIZATIONAL_UNIT_NAME};
 
 /// Rules on the SAN and the subject of certificates of TLS servers (TLS BR 7.1.2.7, 7.1.2.7.12, 7.1.4.3).
-#[derive(Clone, Copy, Debug, PartialEq, Eq)]
+#[derive(Clone, Copy, PartialEq, Eq)]
 pub enum WebNameRule {
     /// There is no SAN (TLS BR 7.1.2.7.12, error).
     SubjectAltNameAbsent,

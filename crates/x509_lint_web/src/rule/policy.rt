@@ -25,7 +25,7 @@ use x509_lint::passes;
 use x509_name::attr::attribute_types::{COUNTRY_NAME, ORGANIZATION_NAME};
 
 /// Rules on certificate policies and authority information access of certificates of TLS servers (TLS BR 7.1.2.7, 7.1.2.11.2).
-#[derive(Clone, Copy, Debug, PartialEq, Eq)]
+#[derive(Clone, Copy, PartialEq, Eq)]
 pub enum WebPolicyRule {
     /// There are no certificate policies (TLS BR 7.1.2.7.9, error).
     CertificatePoliciesAbsent,

@@ -18,7 +18,7 @@ use x509_ext::pkix::{CertificatePolicies, CrlDistributionPoints, ExtendedKeyUsag
 use x509_lint::extensions::{extensions_of, has, has_critical, has_uncritical};
 
 /// Rules on precertificates, and on certificates of authorities that sign them (TLS BR 7.1.2.4, 7.1.2.9).
-#[derive(Clone, Copy, Debug, PartialEq, Eq)]
+#[derive(Clone, Copy, PartialEq, Eq)]
 pub enum WebPrecertificateRule {
     /// A precertificate has a list of SCTs (TLS BR 7.1.2.9, error, from 2023-09-15).
     PrecertificateWithTimestamps,

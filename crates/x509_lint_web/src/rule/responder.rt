@@ -21,7 +21,7 @@ use x509_lint::extensions::{extensions_of, has, has_critical, has_uncritical};
 use x509_lint::passes;
 
 /// Rules on certificates of OCSP responders (TLS BR 7.1.2.8, 7.1.2.11.2).
-#[derive(Clone, Copy, Debug, PartialEq, Eq)]
+#[derive(Clone, Copy, PartialEq, Eq)]
 pub enum WebResponderRule {
     /// There is no id-pkix-ocsp-nocheck (TLS BR 7.1.2.8.6, error, from 2012-07-01).
     OcspNoCheckAbsent,

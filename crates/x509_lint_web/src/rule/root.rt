@@ -24,7 +24,7 @@ use x509_lint::passes;
 use x509_name::attr::attribute_types::ORGANIZATIONAL_UNIT_NAME;
 
 /// Rules on certificates of roots (TLS BR 7.1.2.1, 7.1.2.10.2, 7.1.2.11.2).
-#[derive(Clone, Copy, Debug, PartialEq, Eq)]
+#[derive(Clone, Copy, PartialEq, Eq)]
 pub enum WebRootRule {
     /// The validity is shorter than 2922 days (TLS BR 7.1.2.1.1, error, from 2023-09-15).
     RootValidityUnder2922Days,

@@ -20,7 +20,7 @@ use x509_cert::certificate::CertificateInner;
 use x509_name::attr::attribute_types::{COUNTRY_NAME, ORGANIZATION_NAME, SERIAL_NUMBER};
 
 /// Rules on the attributes of the subject of certificates of TLS servers (TLS BR 7.1.2.7, 7.1.4).
-#[derive(Clone, Copy, Debug, PartialEq, Eq)]
+#[derive(Clone, Copy, PartialEq, Eq)]
 pub enum WebSubjectRule {
     /// The organization is validated, by the policy, and the subject has neither a localityName nor a
     /// stateOrProvinceName (TLS BR 7.1.2.7.4, error, from 2023-09-15).

@@ -22,7 +22,7 @@ use x509_lint::passes;
 use x509_name::attr::attribute_types::ORGANIZATIONAL_UNIT_NAME;
 
 /// Rules on certificates of authorities that may stand above TLS servers and have another issuer (TLS BR 7.1.2.6.1, 7.1.2.10).
-#[derive(Clone, Copy, Debug, PartialEq, Eq)]
+#[derive(Clone, Copy, PartialEq, Eq)]
 pub enum WebSubordinateRule {
     /// There is no EKU (TLS BR 7.1.2.10.6, warning, from 2023-09-15).
     SubordinateWithoutExtendedKeyUsage,

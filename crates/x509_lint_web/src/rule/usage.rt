@@ -21,7 +21,7 @@ use x509_lint::lists::any_of;
 use x509_lint::passes;
 
 /// Rules on what certificates of TLS servers are used for (TLS BR 7.1.2.7.6, 7.1.2.7.10, 7.1.2.7.11).
-#[derive(Clone, Copy, Debug, PartialEq, Eq)]
+#[derive(Clone, Copy, PartialEq, Eq)]
 pub enum WebUsageRule {
     /// There is no EKU (TLS BR 7.1.2.7.10, error).
     ExtendedKeyUsageAbsent,

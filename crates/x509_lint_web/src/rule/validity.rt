@@ -11,7 +11,7 @@ use x509_base::Raw;
 use x509_cert::certificate::CertificateInner;
 
 /// Rules on the validity of certificates of TLS servers (TLS BR 6.3.2).
-#[derive(Clone, Copy, Debug, PartialEq, Eq)]
+#[derive(Clone, Copy, PartialEq, Eq)]
 pub enum WebValidityRule {
     /// The validity is longer than 825 days (TLS BR 6.3.2, error, from 2018-03-02).
     ValidityOver825Days,
