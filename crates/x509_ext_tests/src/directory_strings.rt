@@ -27,6 +27,14 @@ fn is_string(rt: &HostRuntime, bytes: &[u8], text: &str) -> bool {
     }
 }
 
+/// Whether there is a string in the element with these bytes.
+fn is_in_element(rt: &HostRuntime, bytes: &[u8]) -> bool {
+    match Any::from_der(rt.alloc(), bytes) {
+        Ok(any) => DirectoryString::from_any(rt.alloc(), &any).is_ok(),
+        Err(_) => false,
+    }
+}
+
 /// A string of each case, and its text.
 static STRINGS: [(&[u8], &str); 4] = [
     (b"\x13\x02US", "US"),
@@ -35,20 +43,20 @@ static STRINGS: [(&[u8], &str); 4] = [
     (b"\x1E\x04\x00\x41\x20\xAC", "A€"),
 ];
 
-/// Those; and the string of an element, of which a NULL has none.
+/// Those, also out of elements; and a NULL, in which there is none.
 #[test]
-fn strings(rt: HostRuntime) -> Result<(), Fail> {
+fn strings(rt: HostRuntime) {
     for (bytes, text) in &STRINGS {
-        assert!(rt; is_string(&rt, bytes, text), "of {text}");
+        assert!(rt;
+            is_string(&rt, bytes, text) && is_in_element(&rt, bytes),
+            "of {text}"
+        );
     }
-    let printable = Any::from_der(rt.alloc(), b"\x13\x02US")?;
     let null = Any::null(rt.alloc());
     assert!(rt;
-        DirectoryString::from_any(rt.alloc(), &printable).is_ok()
-            && is_refused(
-                DirectoryString::from_any(rt.alloc(), &null),
-                ErrorKind::Malformed
-            )
+        is_refused(
+            DirectoryString::from_any(rt.alloc(), &null),
+            ErrorKind::Malformed
+        )
     );
-    Ok(())
 }

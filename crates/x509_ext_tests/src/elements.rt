@@ -34,13 +34,8 @@ const UNIVERSAL: [(Tag, u8); 7] = [
     (Tag::UniversalString, 0x1C),
 ];
 
-/// Those types, and the constructed tags of number 3, of the application and of its own.
-#[test]
-fn tags(rt: HostRuntime) -> Result<(), Fail> {
-    for (tag, octet) in UNIVERSAL {
-        assert!(rt; tag.octet() == octet, "of {octet}");
-    }
-    let number = TagNumber::new(3)?;
+/// Whether the constructed tags of that number, of the application and of its own, have these octets.
+fn are_octets_of(number: TagNumber, of_application: u8, of_its_own: u8) -> bool {
     let constructed = true;
     let application = Tag::Application {
         constructed,
@@ -50,6 +45,14 @@ fn tags(rt: HostRuntime) -> Result<(), Fail> {
         constructed,
         number,
     };
-    assert!(rt; application.octet() == 0x63 && private.octet() == 0xE3);
-    Ok(())
+    application.octet() == of_application && private.octet() == of_its_own
+}
+
+/// Those types, and the constructed tags of number 3, of the application and of its own.
+#[test]
+fn tags(rt: HostRuntime) {
+    for (tag, octet) in UNIVERSAL {
+        assert!(rt; tag.octet() == octet, "of {octet}");
+    }
+    assert!(rt; matches!(TagNumber::new(3), Ok(number) if are_octets_of(number, 0x63, 0xE3)));
 }

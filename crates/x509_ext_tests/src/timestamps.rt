@@ -149,15 +149,21 @@ fn bytes_of_algorithms(rt: HostRuntime) {
     assert!(rt; SignatureType::TreeHash.byte() == 1);
 }
 
+/// Whether `Debug` shows the octets of a vector.
+fn is_vector_shown(rt: &HostRuntime) -> bool {
+    match TlsByteVecU16::from_slice(rt.alloc(), &[1, 2]) {
+        Ok(octets) => is_text(format!(in rt.alloc(); "{octets:?}"), "[1, 2]"),
+        Err(_) => false,
+    }
+}
+
 #[test]
-fn printed(rt: HostRuntime) -> Result<(), Fail> {
-    let octets = TlsByteVecU16::from_slice(rt.alloc(), &[1, 2])?;
+fn printed(rt: HostRuntime) {
     let unknown = Error::from(TlsError::UnknownValue(7));
     let value = Error::from(DerError::from(ErrorKind::Value));
     assert!(rt;
-        is_text(format!(in rt.alloc(); "{octets:?}"), "[1, 2]")
+        is_vector_shown(&rt)
             && is_printed(&rt, &unknown, "UnknownValue(7)")
             && is_printed(&rt, &value, "Value")
     );
-    Ok(())
 }
