@@ -7,12 +7,13 @@ answer without a line, and a line that doesn't hold: whose function doesn't name
 """
 import argparse
 import dataclasses
+import functools
 import pathlib
 import re
 import sys
 
 sys.path.insert(0, str(pathlib.Path(__file__).resolve().parents[1]))
-from common.crates import TOP, crates_below
+from common.crates import TOP, crates_below, path_of
 from common.header import calls as calls_from_c
 from common.rattle import all_functions, calls, functions
 from common.rows import ROWS
@@ -40,11 +41,13 @@ class Line:
         return self.crate, self.call
 
 
+@functools.cache
 def variants(crate, name):
-    """The variants of an enum of faults, but for that of memory and for what only holds a place and a reason."""
-    for file in sorted((TOP / "crates" / crate / "src").rglob("*.rt")):
-        if told := re.search(rf"^pub enum {name} \{{\n(.*?)^\}}", file.read_text(encoding="utf-8"), re.M | re.S):
-            return set(re.findall(r"^    (\w+)", told[1], re.M)) - {"Memory", "At"}
+    """The variants of an enum of faults, of the crate or of one that it stands on, but for that of memory and for what only holds a place and a reason."""
+    for below in sorted(path_of(crate, crates_below()), reverse=True):
+        for file in sorted((TOP / "crates" / below / "src").rglob("*.rt")):
+            if told := re.search(rf"^pub enum {name} \{{\n(.*?)^\}}", file.read_text(encoding="utf-8"), re.M | re.S):
+                return frozenset(re.findall(r"^    (\w+)", told[1], re.M)) - {"Memory", "At"}
     raise ValueError(f"where is {name}?")
 
 
@@ -58,13 +61,14 @@ def takes_memory(it):
 
 
 def refusals(crate, it):
-    """The answers of a call but for `Ok` and that it is out of memory."""
-    found = set()
+    """The answers of a call but for `Ok` and that it is out of memory. Of faults all may come, but where its docs name some, and neither the reasons as a
+    whole nor those of another call."""
+    found, named = set(), set(re.findall(r"`(?:\w+::)*(\w+)", it.errors))
     for fault, reason in FAULTS.items():
         if fault in it.answer:
-            found |= variants(crate, fault) | variants(crate, reason)
-    told = set(re.findall(r"`(?:\w+::)*(\w+)", it.errors)) | set(re.findall(r"\w+", it.contract))
-    return found or told & set(WORDS)
+            every = variants(crate, fault) | variants(crate, reason)
+            found |= every if reason in named or "Those of" in it.errors else every & named or every
+    return found or (named | set(re.findall(r"\w+", it.contract))) & set(WORDS)
 
 
 def wanted():

@@ -6,7 +6,7 @@ use Rattle.std.specs.List.{AllZip, Contains}
 use Rattle.x509_c_calls.specs.PathFinding.{GivesTrusted}
 use Rattle.x509_c_calls.specs.PathValidation.{AreTold}
 use Rattle.x509_path.proofs.Along.{zip_push}
-use Rattle.x509_validation.specs.declared.trusted.Trusted.{Trusted}
+use Rattle.x509_path_steps.specs.declared.trusted.Trusted.{Trusted}
 use Rattle.x509_verify.specs.Found.{octets}
 use Rattle.x509_verify.specs.Named.{IsNamed}
 

@@ -7,8 +7,8 @@ use Rattle.x509_der.specs.Element.{element, length_octets, limit}
 use Rattle.x509_der.specs.List.{joined}
 use Rattle.x509_der.specs.declared.error.ErrorKind.{ErrorKind}
 use Rattle.x509_der.specs.declared.error.ErrorKind.TheVariants.{Memory, Overlength, Value}
-use Rattle.x509_validation.specs.Inputs.{Inputs}
-use Rattle.x509_validation.specs.Validation.{AreUnusable, IsUnder}
+use Rattle.x509_path_steps.specs.Inputs.{Inputs}
+use Rattle.x509_path_steps.specs.Validation.{AreUnusable, IsUnder}
 use Rattle.x509_policy.specs.Values.{Policy}
 use Rattle.x509_policy.specs.Views.{octets_of}
 

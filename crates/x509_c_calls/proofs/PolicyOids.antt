@@ -9,9 +9,9 @@ use Rattle.x509_der.specs.ObjectIdentifierForm.{arcs_pass}
 use Rattle.x509_ext.specs.PolicyInformation.{policy_information, policy_information_fields}
 use Rattle.x509_ext.specs.declared.pkix.certificate_policies.CertificatePolicies.{CertificatePolicies}
 use Rattle.x509_ext.specs.declared.pkix.policy_information.PolicyInformation.{PolicyInformation}
+use Rattle.x509_path_steps.specs.Inputs.{AreOids}
+use Rattle.x509_path_steps.specs.Says.{identifiers}
 use Rattle.x509_policy.specs.Values.{any_policy}
-use Rattle.x509_validation.specs.Inputs.{AreOids}
-use Rattle.x509_validation.specs.Says.{identifiers}
 
 abbrev IsOid : List ℕ → Type 0
 IsOid octets = is_object_identifier octets ≡ true

@@ -3,14 +3,14 @@ use Rattle.std.specs.Prelude.{◌≡◌, ◌^◌, ℕ, nat_lt, List, ◌++◌, O
 use Rattle.x509_base.specs.declared.subject_public_key_info.SubjectPublicKeyInfo.{SubjectPublicKeyInfo}
 use Rattle.x509_c_calls.specs.Algorithms.{parameters_text}
 use Rattle.x509_c_calls.specs.Kinds.{key_kind, key_number, named_curve}
-use Rattle.x509_c_calls.specs.declared.key.key.KeyView.{KeyView}
 use Rattle.x509_c_calls.specs.Optional.{IsPerhapsAt}
 use Rattle.x509_c_calls.specs.Place.{IsAt}
+use Rattle.x509_c_calls.specs.declared.key.key.KeyView.{KeyView}
 use Rattle.x509_der.specs.Any.{any}
 use Rattle.x509_der.specs.Form.{spelling}
+pub use Rattle.x509_path_steps.specs.WorkingKeys.{AnswersKey}
 use Rattle.x509_prim.specs.BitString.{bit_string}
 use Rattle.x509_text.specs.Algorithms.{known_bits}
-pub use Rattle.x509_validation.specs.WorkingKeys.{AnswersKey}
 
 -- the bits as they are written
 abbrev pub bits_text : SubjectPublicKeyInfo → List ℕ

@@ -26,16 +26,16 @@ use Rattle.x509_ext.specs.NameConstraints.{name_constraints}
 use Rattle.x509_ext.specs.declared.pkix.certificate_policies.CertificatePolicies.{CertificatePolicies}
 use Rattle.x509_ext.specs.declared.pkix.name_constraints.NameConstraints.{NameConstraints}
 use Rattle.x509_path.specs.Certificates.{Accepting, Certificate, IsSigned}
+use Rattle.x509_path_steps.specs.Inputs.{LendsConstraints, LendsTrust, Trust, asked_of, purposes_of, uses_of}
+use Rattle.x509_path_steps.specs.Trusts.{IsTrustOf}
+use Rattle.x509_path_steps.specs.declared.settings.PathSettings.{PathSettings}
+use Rattle.x509_path_steps.specs.declared.trusted.Trusted.{Trusted}
+use Rattle.x509_path_steps.specs.declared.validation_fault.ValidationFault.{ValidationFault}
+use Rattle.x509_path_steps.specs.declared.validation_fault.ValidationFault.TheVariants.{At}
+use Rattle.x509_path_steps.specs.declared.validation_fault.ValidationReason.{ValidationReason}
 use Rattle.x509_policy.specs.declared.anchor.AnchorFlags.{AnchorFlags}
 use Rattle.x509_prim.specs.BitString.{bit_string}
 use Rattle.x509_types.specs.Reencoding.{IsRefused}
-use Rattle.x509_validation.specs.Inputs.{LendsConstraints, LendsTrust, Trust, asked_of, purposes_of, uses_of}
-use Rattle.x509_validation.specs.Trusts.{IsTrustOf}
-use Rattle.x509_validation.specs.declared.settings.PathSettings.{PathSettings}
-use Rattle.x509_validation.specs.declared.trusted.Trusted.{Trusted}
-use Rattle.x509_validation.specs.declared.validation_fault.ValidationFault.{ValidationFault}
-use Rattle.x509_validation.specs.declared.validation_fault.ValidationFault.TheVariants.{At}
-use Rattle.x509_validation.specs.declared.validation_fault.ValidationReason.{ValidationReason}
 use Rattle.x509_verify.specs.Effort.{KeepsLimits}
 use Rattle.x509_verify.specs.Found.{Answers, Wanted, octets}
 use Rattle.x509_verify.specs.Given.{candidates_of, trusted_of}

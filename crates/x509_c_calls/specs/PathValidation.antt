@@ -8,13 +8,13 @@ use Rattle.x509_base.specs.declared.profile.Rfc5280.{Rfc5280}
 use Rattle.x509_c_calls.specs.PayloadExtensions.{flag}
 use Rattle.x509_c_calls.specs.Pieces.{AreCut}
 use Rattle.x509_c_calls.specs.Place.{IsAt}
-use Rattle.x509_c_calls.specs.Status.{IsPut}
 use Rattle.x509_c_calls.specs.Signature.{IsSignature}
+use Rattle.x509_c_calls.specs.Status.{IsPut}
 use Rattle.x509_c_calls.specs.View.{IsView, behind_key, behind_subject}
 use Rattle.x509_c_calls.specs.declared.path.answer.PathAnswer.{PathAnswer}
 use Rattle.x509_c_calls.specs.declared.path.question.PathQuestion.{PathQuestion}
-use Rattle.x509_c_calls.specs.declared.path.views.PathCertificate.{PathCertificate}
 use Rattle.x509_c_calls.specs.declared.path.settings.AskedSettings.{AskedSettings}
+use Rattle.x509_c_calls.specs.declared.path.views.PathCertificate.{PathCertificate}
 use Rattle.x509_c_calls.specs.declared.status.status.Status.{Status}
 use Rattle.x509_c_calls.specs.declared.status.status.Status.TheVariants as statuses
 use Rattle.x509_cert.specs.Certificate.{rfc5280_certificate}
@@ -32,15 +32,15 @@ use Rattle.x509_ext.specs.declared.pkix.certificate_policies.CertificatePolicies
 use Rattle.x509_ext.specs.declared.pkix.name_constraints.NameConstraints.{NameConstraints}
 use Rattle.x509_name.specs.Names.{name}
 use Rattle.x509_path.specs.Certificates.{Certificate, accept_all}
-use Rattle.x509_validation.specs.Inputs.{Inputs, Trust, uses_of}
-use Rattle.x509_validation.specs.declared.settings.PathSettings.{PathSettings}
-use Rattle.x509_validation.specs.Says.{identifiers}
-use Rattle.x509_validation.specs.Trusts as trusts
-use Rattle.x509_validation.specs.Trusts.{IsTrustOf, IsTrustOfAnchor}
-use Rattle.x509_validation.specs.Validation.{AreUnusable, IsFirstFault, IsUnder, PathIsValid}
 use Rattle.x509_path.specs.declared.anchor.Anchor.{Anchor}
-use Rattle.x509_validation.specs.declared.validation_fault.ValidationReason.{ValidationReason}
-use Rattle.x509_validation.specs.declared.validation_fault.ValidationReason.TheVariants.{Decode, Algorithm, Issuer, Moment, Signature, Repeated, Critical, Extension, NotCa, KeyUsage, PathLen, Names, Constraints, RepeatedPolicy, Policy as NoPolicy, PolicyMapping, Version, Usage, Purpose}
+use Rattle.x509_path_steps.specs.Inputs.{Inputs, Trust, uses_of}
+use Rattle.x509_path_steps.specs.Says.{identifiers}
+use Rattle.x509_path_steps.specs.Trusts as trusts
+use Rattle.x509_path_steps.specs.Trusts.{IsTrustOf, IsTrustOfAnchor}
+use Rattle.x509_path_steps.specs.Validation.{AreUnusable, IsFirstFault, IsUnder, PathIsValid}
+use Rattle.x509_path_steps.specs.declared.settings.PathSettings.{PathSettings}
+use Rattle.x509_path_steps.specs.declared.validation_fault.ValidationReason.{ValidationReason}
+use Rattle.x509_path_steps.specs.declared.validation_fault.ValidationReason.TheVariants.{Decode, Algorithm, Issuer, Moment, Signature, Repeated, Critical, Extension, NotCa, KeyUsage, PathLen, Names, Constraints, RepeatedPolicy, Policy as NoPolicy, PolicyMapping, Version, Usage, Purpose}
 use Rattle.x509_policy.specs.Values.{Policy, Settings, any_policy}
 use Rattle.x509_types.specs.Reencoding.{IsRefused}
 

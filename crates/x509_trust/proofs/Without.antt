@@ -4,6 +4,7 @@ use Rattle.std.proofs.lemmas.List.Elements.{All-cons, All-contains, All-nil}
 use Rattle.std.specs.List.{All, Contains}
 use Rattle.x509_path.specs.Certificates.{Accepting}
 use Rattle.x509_path.specs.Lent.{Lends}
+use Rattle.x509_path_steps.specs.declared.trusted.Trusted.{Trusted}
 use Rattle.x509_revocation.specs.Says.{GivenCrl, Question}
 use Rattle.x509_revocation.specs.Status as statuses
 use Rattle.x509_revocation.specs.declared.status.RevocationStatus.{RevocationStatus}
@@ -11,19 +12,18 @@ use Rattle.x509_trust.specs.Limits.{IsWithout, KeepsWithout, OfPaths}
 use Rattle.x509_trust.specs.Peers.{AreBarred, Bars, HasBarred, IsBarred, Passes, asked_above}
 use Rattle.x509_trust.specs.Searched.{AbovePass, AnswersAbove, NonePasses, StandsAbove, told_behind}
 use Rattle.x509_trust.specs.declared.error.RefusedCertificate.{RefusedCertificate}
-use Rattle.x509_trust.specs.declared.error.VerifyError.TheVariants.{OtherName, Path, Revocation, TooManyRefused}
 use Rattle.x509_trust.specs.declared.error.VerifyError.{VerifyError}
+use Rattle.x509_trust.specs.declared.error.VerifyError.TheVariants.{OtherName, Path, Revocation, TooManyRefused}
 use Rattle.x509_trust.specs.declared.revocation.RevocationCheck.{RevocationCheck}
-use Rattle.x509_trust.specs.declared.revocation.RevocationScope.TheVariants as scopes
 use Rattle.x509_trust.specs.declared.revocation.RevocationScope.{RevocationScope}
-use Rattle.x509_validation.specs.declared.trusted.Trusted.{Trusted}
+use Rattle.x509_trust.specs.declared.revocation.RevocationScope.TheVariants as scopes
 use Rattle.x509_verify.specs.Effort.{KeepsLimits}
 use Rattle.x509_verify.specs.Found.{LeadsTo, NoneLeads, Wanted}
 use Rattle.x509_verify.specs.Given.{candidates_of}
 use Rattle.x509_verify.specs.Named.{IsDecodable}
 use Rattle.x509_verify.specs.declared.anchors.Anchors.{Anchors}
-use Rattle.x509_verify.specs.declared.find_error.FindError.TheVariants.{Memory, Limit, Decode, Leaf, UnknownIssuer, Refused}
 use Rattle.x509_verify.specs.declared.find_error.FindError.{FindError}
+use Rattle.x509_verify.specs.declared.find_error.FindError.TheVariants.{Memory, Limit, Decode, Leaf, UnknownIssuer, Refused}
 use Rattle.x509_verify.specs.declared.found.Found.{Found}
 use Rattle.x509_verify.specs.declared.limits.SearchLimits.{SearchLimits}
 use Rattle.x509_verify.specs.declared.pool.Pool.{Pool}

@@ -4,6 +4,7 @@ use Rattle.std.specs.Prelude.{◌≡◌, ◌≤◌, ◌+◌, ℕ, suc, List, [],
 use Rattle.std.specs.List.{All}
 use Rattle.x509_path.specs.Certificates.{Accepting, Certificate, extensions_of}
 use Rattle.x509_path.specs.Lent.{Lends}
+use Rattle.x509_path_steps.specs.declared.trusted.Trusted.{Trusted}
 use Rattle.x509_peer.specs.Naming.{Names}
 use Rattle.x509_peer.specs.Peer.{Named, named_email, named_server}
 use Rattle.x509_revocation.specs.Lent.{LendsAll, question}
@@ -19,7 +20,6 @@ use Rattle.x509_trust.specs.declared.peer.PeerName.TheVariants.{Server, Email}
 use Rattle.x509_trust.specs.declared.revocation.RevocationCheck.{RevocationCheck}
 use Rattle.x509_trust.specs.declared.revocation.RevocationScope.{RevocationScope}
 use Rattle.x509_trust.specs.declared.revocation.RevocationScope.TheVariants as scopes
-use Rattle.x509_validation.specs.declared.trusted.Trusted.{Trusted}
 use Rattle.x509_verify.specs.Found.{Answers, AreDistinct, IsFound, LeadsTo, Wanted}
 use Rattle.x509_verify.specs.Named.{IsDecodable}
 use Rattle.x509_verify.specs.declared.found.Found.{Found}

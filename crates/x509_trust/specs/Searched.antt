@@ -2,14 +2,14 @@
 use Rattle.std.specs.Prelude.{◌≤◌, ◌+◌, ℕ, List, suc, length, Contains, Result, Ok, Err}
 use Rattle.std.specs.List.{All}
 use Rattle.x509_path.specs.Certificates.{Accepting}
+use Rattle.x509_path_steps.specs.declared.trusted.Trusted.{Trusted}
 use Rattle.x509_revocation.specs.Says.{GivenCrl}
 use Rattle.x509_trust.specs.Peers.{AreBarred, IsBarred, Passes, asked_above}
-use Rattle.x509_trust.specs.declared.candidates.Candidates.TheVariants.{Given, Left}
 use Rattle.x509_trust.specs.declared.candidates.Candidates.{Candidates}
-use Rattle.x509_trust.specs.declared.error.VerifyError.TheVariants.{OtherName, Path, Revocation, TooManyRefused}
+use Rattle.x509_trust.specs.declared.candidates.Candidates.TheVariants.{Given, Left}
 use Rattle.x509_trust.specs.declared.error.VerifyError.{VerifyError}
+use Rattle.x509_trust.specs.declared.error.VerifyError.TheVariants.{OtherName, Path, Revocation, TooManyRefused}
 use Rattle.x509_trust.specs.declared.revocation.RevocationCheck.{RevocationCheck}
-use Rattle.x509_validation.specs.declared.trusted.Trusted.{Trusted}
 use Rattle.x509_verify.specs.Found.{Answers, IsFound, LeadsTo, Wanted}
 use Rattle.x509_verify.specs.declared.find_error.FindError.TheVariants.{Memory, Limit}
 use Rattle.x509_verify.specs.declared.found.Found.{Found}

@@ -3,10 +3,10 @@ use Rattle.std.proofs.Common.{◌≡◌, [], ◌∷◌, arith}
 use Rattle.std.proofs.lemmas.List.Elements.{All-append, All-nil, All-cons}
 use Rattle.x509_path.proofs.Firsts.{Free, first_at}
 use Rattle.x509_path.specs.Path.{IsFirst}
-use Rattle.x509_validation.specs.Steps.{reason_for}
-use Rattle.x509_validation.specs.Validation.{own_reasons, reasons}
-use Rattle.x509_validation.specs.declared.validation_fault.ValidationReason.{ValidationReason}
-use Rattle.x509_validation.specs.declared.validation_fault.ValidationReason.TheVariants.{Decode, Algorithm, Issuer, Moment, Signature, Repeated, Critical, Extension, NotCa, KeyUsage, PathLen, Names, Constraints, RepeatedPolicy, Policy, PolicyMapping, Version, Usage, Purpose}
+use Rattle.x509_path_steps.specs.Steps.{reason_for}
+use Rattle.x509_path_steps.specs.Validation.{own_reasons, reasons}
+use Rattle.x509_path_steps.specs.declared.validation_fault.ValidationReason.{ValidationReason}
+use Rattle.x509_path_steps.specs.declared.validation_fault.ValidationReason.TheVariants.{Decode, Algorithm, Issuer, Moment, Signature, Repeated, Critical, Extension, NotCa, KeyUsage, PathLen, Names, Constraints, RepeatedPolicy, Policy, PolicyMapping, Version, Usage, Purpose}
 use Rattle.x509_policy.specs.Path as refusals
 use Rattle.x509_policy.specs.Path.{Reason}
 

@@ -9,16 +9,16 @@ use Rattle.x509_der.specs.Form.{Spells}
 use Rattle.x509_path.specs.Certificates.{Accepting, Certificate}
 use Rattle.x509_path.specs.Path.{HasFaultBehind, subject_of}
 use Rattle.x509_path.specs.declared.anchor.Anchor.{Anchor}
-use Rattle.x509_validation.specs.Inputs.{Inputs, LendsInputs}
+use Rattle.x509_path_steps.proofs.LeftPurposes.{parted}
+use Rattle.x509_path_steps.specs.Inputs.{Inputs, LendsInputs}
+use Rattle.x509_path_steps.specs.Validation.{AllowsPurpose, Breaks, LackPurpose, PathIsValid, asked_at, faults_at}
+use Rattle.x509_path_steps.specs.declared.asked.Uses.{Uses}
+use Rattle.x509_path_steps.specs.declared.settings.PathSettings.{PathSettings}
+use Rattle.x509_path_steps.specs.declared.trusted.Trusted.{Trusted}
+use Rattle.x509_path_steps.specs.declared.validation_fault.ValidationReason.{ValidationReason}
+use Rattle.x509_path_steps.specs.declared.validation_fault.ValidationReason.TheVariants.{Decode, Algorithm, Issuer, Moment, Signature, Repeated, Critical, Extension, NotCa, KeyUsage, PathLen, Names, Constraints, RepeatedPolicy, Policy, PolicyMapping, Version, Usage, Purpose}
+use Rattle.x509_validation.specs.Judging.{standing}
 use Rattle.x509_validation.specs.Last.{AskedAlone, BreaksAlone, TellsAlone, asked_alone, lone_reasons}
-use Rattle.x509_validation.specs.Steps.{standing}
-use Rattle.x509_validation.specs.Validation.{AllowsPurpose, Breaks, LackPurpose, PathIsValid, asked_at, faults_at}
-use Rattle.x509_validation.specs.declared.asked.Uses.{Uses}
-use Rattle.x509_validation.specs.declared.settings.PathSettings.{PathSettings}
-use Rattle.x509_validation.specs.declared.trusted.Trusted.{Trusted}
-use Rattle.x509_validation.specs.declared.validation_fault.ValidationReason.{ValidationReason}
-use Rattle.x509_validation.specs.declared.validation_fault.ValidationReason.TheVariants.{Decode, Algorithm, Issuer, Moment, Signature, Repeated, Critical, Extension, NotCa, KeyUsage, PathLen, Names, Constraints, RepeatedPolicy, Policy, PolicyMapping, Version, Usage, Purpose}
-use Rattle.x509_validation.proofs.LeftPurposes.{parted}
 
 -- none of several allows a purpose that one of them doesn't
 lack_more : (purposes : Option (List (List ℕ))) (is_chained : Bool) (before : List Certificate) (c : Certificate) → LackPurpose purposes (c ∷ [])

@@ -6,13 +6,13 @@ use Rattle.x509_ext.specs.Identifiers.{id_ce}
 use Rattle.x509_ext.specs.InhibitAnyPolicy.{inhibit_any_policy}
 use Rattle.x509_ext.specs.PolicyConstraints.{policy_constraints}
 use Rattle.x509_ext.specs.PolicyMapping.{policy_mappings}
-use Rattle.x509_path.specs.Certificates.{Certificate, HasPayload, extensions_of}
-use Rattle.x509_validation.specs.Inputs.{Inputs}
-use Rattle.x509_validation.specs.Policies.{AreRefused, AreSettings, IsRefused}
-use Rattle.x509_validation.specs.Says.{Say, Says, any_policy_inhibit_of, explicit_policy_of, identifiers, mapping_inhibit_of, mappings_of}
-use Rattle.x509_validation.proofs.AllowedNames.{one_found}
 use Rattle.x509_path.proofs.Lent.{one_test}
-use Rattle.x509_validation.proofs.PolicyPaths.{AreSame, goes_on_there, one_reason, valid_there}
+use Rattle.x509_path.specs.Certificates.{Certificate, HasPayload, extensions_of}
+use Rattle.x509_path_steps.proofs.AllowedNames.{one_found}
+use Rattle.x509_path_steps.proofs.PolicyPaths.{AreSame, goes_on_there, one_reason, valid_there}
+use Rattle.x509_path_steps.specs.Inputs.{Inputs}
+use Rattle.x509_path_steps.specs.Policies.{AreRefused, AreSettings, IsRefused}
+use Rattle.x509_path_steps.specs.Says.{Say, Says, any_policy_inhibit_of, explicit_policy_of, identifiers, mapping_inhibit_of, mappings_of}
 use Rattle.x509_policy.specs.Follows.{Follows, IsOutcome}
 use Rattle.x509_policy.specs.Path.{Reason, Valid}
 use Rattle.x509_policy.specs.Values as policies

@@ -1,14 +1,14 @@
 -- There is one answer to a path that is validated, out of memory aside.
 use Rattle.std.proofs.Common.{◌≡◌, ◌⊎◌, inl, inr, ℕ, List, [], ◌∷◌, Result, Ok, Err, IsOk, refl, ap, subst}
-use Rattle.x509_path.specs.Certificates.{Accepting}
-use Rattle.x509_validation.specs.Inputs.{Inputs}
-use Rattle.x509_validation.specs.Validation.{Answers, AreUnusable, HasFault, IsFirstFault, PathIsValid, reasons}
-use Rattle.x509_validation.specs.declared.validated.Validated.{Validated}
-use Rattle.x509_validation.specs.declared.validation_fault.ValidationFault.{ValidationFault}
-use Rattle.x509_validation.specs.declared.validation_fault.ValidationFault.TheVariants.{Memory, Empty, Initial, At}
-use Rattle.x509_validation.specs.declared.validation_fault.ValidationReason.{ValidationReason}
-use Rattle.x509_validation.specs.declared.validation_fault.ValidationReason.TheVariants.{Decode}
 use Rattle.x509_path.proofs.Firsts.{one_place}
+use Rattle.x509_path.specs.Certificates.{Accepting}
+use Rattle.x509_path_steps.specs.Inputs.{Inputs}
+use Rattle.x509_path_steps.specs.Validation.{Answers, AreUnusable, HasFault, IsFirstFault, PathIsValid, reasons}
+use Rattle.x509_path_steps.specs.declared.validated.Validated.{Validated}
+use Rattle.x509_path_steps.specs.declared.validation_fault.ValidationFault.{ValidationFault}
+use Rattle.x509_path_steps.specs.declared.validation_fault.ValidationFault.TheVariants.{Memory, Empty, Initial, At}
+use Rattle.x509_path_steps.specs.declared.validation_fault.ValidationReason.{ValidationReason}
+use Rattle.x509_path_steps.specs.declared.validation_fault.ValidationReason.TheVariants.{Decode}
 
 module _ (accepts : Accepting) (inputs : Inputs) (path : List (List ℕ)) where
   one_fault : (p q : ℕ) (r s : ValidationReason) → IsFirstFault accepts inputs path p r → IsFirstFault accepts inputs path q s → At p r ≡ At q s

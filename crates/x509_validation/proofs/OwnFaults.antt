@@ -4,14 +4,14 @@ use Rattle.std.specs.Bool.{IsTrue}
 use Rattle.std.specs.Option.{option_map}
 use Rattle.x509_path.specs.Certificates.{Accepting, Certificate}
 use Rattle.x509_path.specs.declared.anchor.Anchor.{Anchor}
+use Rattle.x509_path_steps.specs.Inputs.{Inputs, purposes_of}
+use Rattle.x509_path_steps.specs.Validation.{Breaks, asks_purpose}
+use Rattle.x509_path_steps.specs.declared.settings.PathSettings.{PathSettings}
+use Rattle.x509_path_steps.specs.declared.validation_fault.ValidationReason.{ValidationReason}
+use Rattle.x509_path_steps.specs.declared.validation_fault.ValidationReason.TheVariants.{Decode, Algorithm, Issuer, Moment, Signature, Repeated, Critical, Extension, NotCa, KeyUsage, PathLen, Names, Constraints, RepeatedPolicy, Policy, PolicyMapping, Version, Usage, Purpose}
 use Rattle.x509_policy.specs.Views.{octets_of}
-use Rattle.x509_validation.specs.Inputs.{Inputs, purposes_of}
+use Rattle.x509_validation.specs.Judging.{IsOwn, standing}
 use Rattle.x509_validation.specs.Last.{AskedAlone, BreaksAlone, HasOwnFault}
-use Rattle.x509_validation.specs.Steps.{IsOwn, standing}
-use Rattle.x509_validation.specs.Validation.{Breaks, asks_purpose}
-use Rattle.x509_validation.specs.declared.settings.PathSettings.{PathSettings}
-use Rattle.x509_validation.specs.declared.validation_fault.ValidationReason.{ValidationReason}
-use Rattle.x509_validation.specs.declared.validation_fault.ValidationReason.TheVariants.{Decode, Algorithm, Issuer, Moment, Signature, Repeated, Critical, Extension, NotCa, KeyUsage, PathLen, Names, Constraints, RepeatedPolicy, Policy, PolicyMapping, Version, Usage, Purpose}
 
 -- it isn't a reason that is asked for beside those
 pub record IsLeft (reason : ValidationReason) : Type 0 where

@@ -3,24 +3,25 @@ use Rattle.std.proofs.Common.{◌≡◌, ◌↔◌, ◌+◌, ◌<◌, ℕ, List,
 use Rattle.std.specs.List.{All}
 use Rattle.x509_cert.specs.Certificate.{rfc5280_certificate}
 use Rattle.x509_der.specs.Form.{Spells}
-use Rattle.x509_path.specs.Certificates.{Accepting, Certificate}
-use Rattle.x509_validation.specs.Inputs.{Inputs}
-use Rattle.x509_validation.specs.Policies.{AreRefused, AreSettings}
-use Rattle.x509_validation.specs.Says.{Say, Says}
-use Rattle.x509_validation.specs.Steps.{Judges, StopsAt, reason_for}
-use Rattle.x509_validation.specs.Validation.{Breaks, Standing, own_reasons, reasons}
-use Rattle.x509_validation.specs.declared.validation_fault.ValidationFault.{ValidationFault}
-use Rattle.x509_validation.specs.declared.validation_fault.ValidationFault.TheVariants.{Memory, Empty, Initial, At}
-use Rattle.x509_validation.specs.declared.validation_fault.ValidationReason.TheVariants.{Decode}
-use Rattle.x509_validation.proofs.OneSaid.{not_on, not_valid, only, refused_so}
-use Rattle.x509_validation.proofs.FirstReasons.{first_policy, none}
 use Rattle.x509_path.proofs.Firsts.{first_wrong}
+use Rattle.x509_path.specs.Certificates.{Accepting, Certificate}
+use Rattle.x509_path_steps.specs.Inputs.{Inputs}
+use Rattle.x509_path_steps.specs.Policies.{AreRefused, AreSettings}
+use Rattle.x509_path_steps.specs.Says.{Say, Says}
+use Rattle.x509_path_steps.specs.Steps.{StopsAt, reason_for}
+use Rattle.x509_path_steps.specs.Validation.{Breaks, Standing, own_reasons, reasons}
+use Rattle.x509_path_steps.specs.declared.validation_fault.ValidationFault.{ValidationFault}
+use Rattle.x509_path_steps.specs.declared.validation_fault.ValidationFault.TheVariants.{Memory, Empty, Initial, At}
+use Rattle.x509_path_steps.specs.declared.validation_fault.ValidationReason.TheVariants.{Decode}
 use Rattle.x509_policy.specs.Follows.{Follows, IsOutcome}
 use Rattle.x509_policy.specs.Path as refusals
 use Rattle.x509_policy.specs.Path.{Reason, Valid}
 use Rattle.x509_policy.specs.Values as policies
 use Rattle.x509_policy.specs.Values.{Policy, Settings}
 use Rattle.x509_policy.specs.declared.state.PolicyState.{PolicyState}
+use Rattle.x509_validation.proofs.FirstReasons.{first_policy, none}
+use Rattle.x509_validation.proofs.OneSaid.{not_on, not_valid, only, refused_so}
+use Rattle.x509_validation.specs.Judging.{Judges}
 
 -- what is wrong with policies is what they are refused for
 as_refused : (accepts : Accepting) (inputs : Inputs) (standing : Standing) (bytes : List ℕ) (c : Certificate) (q : Reason) → Breaks accepts inputs standing bytes c (reason_for q) ↔ AreRefused inputs standing.n standing.before c q

@@ -1,12 +1,12 @@
 -- What is asked of policies at the start of a path.
 use Rattle.std.proofs.Common.{◌≡◌, ◌∙◌, ◌↔◌, List, Option, sym, ap, subst}
 use Rattle.std.specs.Option.{option_map}
-use Rattle.x509_validation.specs.Inputs.{Inputs, LendsInputs, asked_of, user_set}
-use Rattle.x509_validation.specs.Policies.{AreSettings}
-use Rattle.x509_validation.specs.Says.{identifiers}
-use Rattle.x509_validation.specs.Steps.{chosen}
-use Rattle.x509_validation.specs.declared.settings.PathSettings.{PathSettings}
-use Rattle.x509_validation.specs.declared.trusted.Trusted.{Trusted}
+use Rattle.x509_path_steps.specs.Inputs.{Inputs, LendsInputs, asked_of, user_set}
+use Rattle.x509_path_steps.specs.Policies.{AreSettings}
+use Rattle.x509_path_steps.specs.Says.{identifiers}
+use Rattle.x509_path_steps.specs.Steps.{chosen}
+use Rattle.x509_path_steps.specs.declared.settings.PathSettings.{PathSettings}
+use Rattle.x509_path_steps.specs.declared.trusted.Trusted.{Trusted}
 use Rattle.x509_policy.specs.Anchors.{IsMerged, with_flags}
 use Rattle.x509_policy.specs.Levels.{In}
 use Rattle.x509_policy.specs.Values.{Policy, Settings}

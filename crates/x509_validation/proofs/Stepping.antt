@@ -6,34 +6,35 @@ use Rattle.std.proofs.lemmas.Bool.{true≢false}
 use Rattle.std.proofs.lemmas.Option.{slice_get_within, get_or_from_slice_get}
 use Rattle.std.proofs.lemmas.Slice.Zip.{AllZip-long}
 use Rattle.x509_base.specs.CivilTime.{CivilTime}
+use Rattle.x509_der.specs.Any.{any}
 use Rattle.x509_ext.specs.declared.pkix.name_constraints.NameConstraints.{NameConstraints}
 use Rattle.x509_match.specs.Matching.{NamesMatch}
-use Rattle.x509_path.specs.Certificates.{Accepting, Certificate, IsOver}
-use Rattle.x509_path.specs.PathLength.{Leaves}
-use Rattle.x509_der.specs.Any.{any}
-use Rattle.x509_validation.specs.Inputs.{Inputs, LendsInputs, SpellsOption, purposes_of, uses_of}
-use Rattle.x509_path.specs.Lent.{LendsAnchor}
-use Rattle.x509_path.specs.Path.{IsFirst, is_empty, subject_of}
-use Rattle.x509_validation.specs.Keys.{key_behind, parameters_of, working_key}
-use Rattle.x509_validation.specs.Steps.{AreConstraintsOf, AreLeft, Carries, EndsUnder, Holds, HoldsKey, Judges, Stands, Starts, asked_before, left_at, standing}
-use Rattle.x509_validation.specs.Validation.{Answers, AnswersUnreadable, AreOf, AreParameters, AreUnusable, Breaks, HasFault, IsFault, IsFirstFault, IsUnder, Standing, faults_at, reasons}
-use Rattle.x509_path.specs.declared.anchor.Anchor.{Anchor}
-use Rattle.x509_validation.specs.declared.above.Above.{Above}
-use Rattle.x509_validation.specs.declared.asked.Asked.{Asked}
-use Rattle.x509_validation.specs.declared.settings.PathSettings.{PathSettings}
-use Rattle.x509_validation.specs.declared.trusted.Trusted.{Trusted}
-use Rattle.x509_validation.specs.declared.validation_fault.ValidationFault.{ValidationFault}
-use Rattle.x509_validation.specs.declared.validation_fault.ValidationFault.TheVariants.{Memory, Empty, Initial, At}
-use Rattle.x509_validation.specs.declared.validation_fault.ValidationReason.{ValidationReason}
-use Rattle.x509_validation.specs.declared.validation_fault.ValidationReason.TheVariants.{Decode, PathLen}
-use Rattle.x509_validation.proofs.AllowedNames.{collected}
-use Rattle.x509_validation.proofs.WorkingKeys.{one_behind}
-use Rattle.x509_path.proofs.PathLengths.{begins, too_many}
-use Rattle.x509_validation.proofs.LeftPurposes.{at_first}
 use Rattle.x509_path.proofs.Along.{Reached, local, no_fault, reached_first, reached_next, zip_push}
 use Rattle.x509_path.proofs.Firsts.{first_along, wrong}
+use Rattle.x509_path.proofs.PathLengths.{begins, too_many}
+use Rattle.x509_path.specs.Certificates.{Accepting, Certificate, IsOver}
+use Rattle.x509_path.specs.Lent.{LendsAnchor}
+use Rattle.x509_path.specs.Path.{IsFirst, is_empty, subject_of}
+use Rattle.x509_path.specs.PathLength.{Leaves}
+use Rattle.x509_path.specs.declared.anchor.Anchor.{Anchor}
+use Rattle.x509_path_steps.proofs.AllowedNames.{collected}
+use Rattle.x509_path_steps.proofs.LeftPurposes.{at_first}
+use Rattle.x509_path_steps.proofs.WorkingKeys.{one_behind}
+use Rattle.x509_path_steps.specs.Inputs.{Inputs, LendsInputs, SpellsOption, purposes_of, uses_of}
+use Rattle.x509_path_steps.specs.Keys.{key_behind, parameters_of, working_key}
+use Rattle.x509_path_steps.specs.Steps.{AreConstraintsOf, AreLeft, Holds, HoldsKey, Starts, asked_before, left_at}
+use Rattle.x509_path_steps.specs.Validation.{Answers, AnswersUnreadable, AreOf, AreParameters, AreUnusable, Breaks, HasFault, IsFault, IsFirstFault, IsUnder, Standing, faults_at, reasons}
+use Rattle.x509_path_steps.specs.declared.above.Above.{Above}
+use Rattle.x509_path_steps.specs.declared.asked.Asked.{Asked}
+use Rattle.x509_path_steps.specs.declared.settings.PathSettings.{PathSettings}
+use Rattle.x509_path_steps.specs.declared.trusted.Trusted.{Trusted}
+use Rattle.x509_path_steps.specs.declared.validation_fault.ValidationFault.{ValidationFault}
+use Rattle.x509_path_steps.specs.declared.validation_fault.ValidationFault.TheVariants.{Memory, Empty, Initial, At}
+use Rattle.x509_path_steps.specs.declared.validation_fault.ValidationReason.{ValidationReason}
+use Rattle.x509_path_steps.specs.declared.validation_fault.ValidationReason.TheVariants.{Decode, PathLen}
 use Rattle.x509_policy.specs.Values.{Policy}
 use Rattle.x509_policy.specs.declared.state.PolicyState.{PolicyState}
+use Rattle.x509_validation.specs.Judging.{Carries, EndsUnder, Judges, Stands, standing}
 
 -- ---- a path, and its last input
 

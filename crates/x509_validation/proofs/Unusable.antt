@@ -4,10 +4,10 @@ use Rattle.std.proofs.lemmas.Bool.{true≢false}
 use Rattle.std.specs.Bool.{IsTrue}
 use Rattle.x509_constraints.specs.Constraints.{IsUsable}
 use Rattle.x509_ext.specs.declared.pkix.name_constraints.NameConstraints.{NameConstraints}
-use Rattle.x509_path.specs.Certificates.{Certificate}
-use Rattle.x509_validation.specs.Steps.{AreConstraintsOf}
-use Rattle.x509_validation.specs.Validation.{HasUnusable}
 use Rattle.x509_path.proofs.Lent.{differ}
+use Rattle.x509_path.specs.Certificates.{Certificate}
+use Rattle.x509_path_steps.specs.Steps.{AreConstraintsOf}
+use Rattle.x509_path_steps.specs.Validation.{HasUnusable}
 
 module _ (c : Certificate) (found : Option NameConstraints) (has : AreConstraintsOf c found) where
   pub unusable : (constraints : NameConstraints) → found ≡ Some constraints → (b : Bool) → IsTrue b ↔ IsUsable constraints → IsTrue (not b) ↔ HasUnusable c

@@ -10,8 +10,9 @@ use Rattle.x509_match.specs.Matching.{NamesMatch}
 use Rattle.x509_path.specs.Certificates.{Certificate, IsSelfIssued, extensions_of}
 use Rattle.x509_path.specs.Lent.{Lends, lent_extensions}
 use Rattle.x509_path.specs.PathLength as lengths
-use Rattle.x509_validation.specs.Steps.{AreConstraintsOf, IsOwn, Knows}
-use Rattle.x509_validation.specs.Validation.{own_reasons}
+use Rattle.x509_path_steps.specs.Steps.{AreConstraintsOf}
+use Rattle.x509_path_steps.specs.Validation.{own_reasons}
+use Rattle.x509_validation.specs.Judging.{IsOwn, Knows}
 
 -- what is looked up among its extensions
 pub knows_of : (bytes : List ℕ) (lent : List ExtensionRef) (is_last is_own : Bool) (c : Certificate) (basic : Option BasicConstraints) (names : Option NameConstraints) → Lends bytes c

@@ -3,13 +3,13 @@ use Rattle.std.proofs.Common.{◌≡◌, ◌↔◌, ◌⊎◌, inl, inr, ℕ, Li
 use Rattle.x509_cert.specs.Certificate.{rfc5280_certificate}
 use Rattle.x509_cert.specs.Signed.{IsSignedPart}
 use Rattle.x509_der.specs.Form.{Spells}
-use Rattle.x509_path.specs.Certificates.{Accepting, Certificate, accept_all}
-use Rattle.x509_validation.specs.Inputs.{Inputs}
-use Rattle.x509_validation.specs.Validation.{HasFault, PathIsValid, faults_at}
-use Rattle.x509_path.specs.declared.anchor.Anchor.{Anchor}
-use Rattle.x509_validation.specs.declared.validation_fault.ValidationReason.{ValidationReason}
-use Rattle.x509_validation.specs.declared.validation_fault.ValidationReason.TheVariants.{Signature}
 use Rattle.x509_path.proofs.Along.{Follows, faults_apart}
+use Rattle.x509_path.specs.Certificates.{Accepting, Certificate, accept_all}
+use Rattle.x509_path.specs.declared.anchor.Anchor.{Anchor}
+use Rattle.x509_path_steps.specs.Inputs.{Inputs}
+use Rattle.x509_path_steps.specs.Validation.{HasFault, PathIsValid, faults_at}
+use Rattle.x509_path_steps.specs.declared.validation_fault.ValidationReason.{ValidationReason}
+use Rattle.x509_path_steps.specs.declared.validation_fault.ValidationReason.TheVariants.{Signature}
 
 module _ (inputs : Inputs) where
   -- no other reason asks the verifier

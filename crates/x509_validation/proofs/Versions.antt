@@ -9,7 +9,7 @@ use Rattle.x509_ext.specs.declared.extension.Extension.{Extension}
 use Rattle.x509_path.specs.Certificates as certificates
 use Rattle.x509_path.specs.Certificates.{Certificate, extensions_of}
 use Rattle.x509_path.specs.Lent.{lent_extensions}
-use Rattle.x509_validation.specs.Validation.{IsAuthority}
+use Rattle.x509_path_steps.specs.Validation.{IsAuthority}
 
 module _ (allows : Bool) (c : Certificate) where
   pub of_first : V1 ≡ c.tbs_certificate.version → IsTrue allows ↔ IsAuthority allows c

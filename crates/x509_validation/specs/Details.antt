@@ -7,11 +7,11 @@ use Rattle.x509_base.specs.declared.profile.Rfc5280.{Rfc5280}
 use Rattle.x509_base.specs.declared.validity.Validity.{Validity}
 use Rattle.x509_ext.specs.declared.extension.Extension.{Extension}
 use Rattle.x509_path.specs.Certificates as certificates
-use Rattle.x509_validation.specs.Validation.{IsDecodable, IsProcessed}
+use Rattle.x509_path_steps.specs.Validation.{IsDecodable, IsProcessed}
+use Rattle.x509_path_steps.specs.declared.validation_fault.ValidationReason.{ValidationReason}
+use Rattle.x509_path_steps.specs.declared.validation_fault.ValidationReason.TheVariants.{Critical, Extension as Undecodable}
 use Rattle.x509_validation.specs.declared.details.OutOfDate.{OutOfDate}
 use Rattle.x509_validation.specs.declared.details.OutOfDate.TheVariants.{NotYetValid, Expired}
-use Rattle.x509_validation.specs.declared.validation_fault.ValidationReason.{ValidationReason}
-use Rattle.x509_validation.specs.declared.validation_fault.ValidationReason.TheVariants.{Critical, Extension as Undecodable}
 
 -- on which side of the validity the moment is (RFC 5280 4.1.2.5)
 abbrev pub IsSide : CivilTime → Validity Rfc5280 → Option OutOfDate → Type 0

@@ -1,12 +1,12 @@
 -- Equality of the faults of validation and of the flags of anchors is exact.
 use Rattle.std.specs.Prelude.{refl}
 use Rattle.x509_der.specs.Exact.{IsExact, exact_bare, exact_bool, exact_both, exact_by, exact_cases, exact_last, exact_number, exact_unit}
+use Rattle.x509_path_steps.specs.contracts.validation_fault.ValidationFault.{enum as faults}
+use Rattle.x509_path_steps.specs.contracts.validation_fault.ValidationFaultPartialEq.TheImpl as fault_eq
+use Rattle.x509_path_steps.specs.contracts.validation_fault.ValidationReason.{enum as reasons}
+use Rattle.x509_path_steps.specs.contracts.validation_fault.ValidationReasonPartialEq.TheImpl as reason_eq
 use Rattle.x509_policy.specs.contracts.anchor.AnchorFlagsPartialEq.TheImpl as flags_eq
 use Rattle.x509_policy.specs.declared.anchor.AnchorFlags.{AnchorFlags}
-use Rattle.x509_validation.specs.contracts.validation_fault.ValidationFault.{enum as faults}
-use Rattle.x509_validation.specs.contracts.validation_fault.ValidationFaultPartialEq.TheImpl as fault_eq
-use Rattle.x509_validation.specs.contracts.validation_fault.ValidationReason.{enum as reasons}
-use Rattle.x509_validation.specs.contracts.validation_fault.ValidationReasonPartialEq.TheImpl as reason_eq
 
 pub exact_reason : IsExact reason_eq.ghosts.eq
 exact_reason = exact_bare reasons tt

@@ -6,11 +6,11 @@ use Rattle.x509_ext.specs.declared.pkix.key_usage.KeyUsage as usages
 use Rattle.x509_path.specs.Certificates as certificates
 use Rattle.x509_path.specs.Certificates.{Certificate, extensions_of}
 use Rattle.x509_path.specs.Path.{IsFirst}
-use Rattle.x509_validation.specs.Inputs.{purposes_of}
-use Rattle.x509_validation.specs.Validation.{AreProcessed, AreSpelled, HasOtherVersion, LackPurpose, LacksUsage, asks_purpose}
-use Rattle.x509_validation.specs.declared.settings.PathSettings.{PathSettings}
-use Rattle.x509_validation.specs.declared.validation_fault.ValidationReason.{ValidationReason}
-use Rattle.x509_validation.specs.declared.validation_fault.ValidationReason.TheVariants.{Algorithm, Moment, Repeated, Critical, Extension as Undecodable, Version as OtherVersion, Usage as OtherUsage, Purpose as OtherPurpose}
+use Rattle.x509_path_steps.specs.Inputs.{purposes_of}
+use Rattle.x509_path_steps.specs.Validation.{AreProcessed, AreSpelled, HasOtherVersion, LackPurpose, LacksUsage, asks_purpose}
+use Rattle.x509_path_steps.specs.declared.settings.PathSettings.{PathSettings}
+use Rattle.x509_path_steps.specs.declared.validation_fault.ValidationReason.{ValidationReason}
+use Rattle.x509_path_steps.specs.declared.validation_fault.ValidationReason.TheVariants.{Algorithm, Moment, Repeated, Critical, Extension as Undecodable, Version as OtherVersion, Usage as OtherUsage, Purpose as OtherPurpose}
 
 -- what is asked of the certificate alone: the moment, the purposes of which one is asked for, and the bits of its key usage
 pub record AskedAlone : Type 0 where

@@ -1,15 +1,4 @@
-pub mod Oids
-pub mod Says
-pub mod Inputs
-pub mod Policies
-pub mod Trusts
-pub mod Keys
-pub mod WorkingKeys
-pub mod CommonNames
-pub mod ServerNames
-pub mod Validation
-pub mod ValidationFault
-pub mod Steps
+pub mod Judging
 pub mod Equality
 pub mod Details
 pub mod Last

@@ -8,9 +8,9 @@ ghost use Rattle.x509_path.specs.Lent.{Lends};
 ghost use Rattle.x509_validation.specs.Details.{IsFaulty, IsFirstOf, IsSide};
 
 use crate::processed::{is_decodable, is_processed};
-use crate::validation_fault::ValidationReason;
 use x509_base::DateTime;
 use x509_check::{CertificateRef, ExtensionRef, ExtensionRefs};
+use x509_path_steps::ValidationReason;
 
 /// On which side of a validity a moment is.
 #[derive(Clone, Copy, Debug, PartialEq, Eq)]

@@ -7,12 +7,11 @@ ghost use Rattle.x509_validation.specs.Last.{BreaksAlone, TellsAlone, asked_alon
 
 use crate::own::has_own_fault;
 use crate::processed::lacks_usage;
-use crate::purposes::lacks_purposes;
-use crate::settings::PathSettings;
-use crate::validation_fault::ValidationReason;
 use std::alloc::{AllocError, Global};
 use x509_check::{CertificateRef, ExtensionRef};
 use x509_path::extensions::collect;
+use x509_path_steps::purposes::lacks_purposes;
+use x509_path_steps::{PathSettings, ValidationReason};
 
 /// The reasons that are asked of a certificate alone, in their order.
 const REASONS: [ValidationReason; 8] = [

@@ -6,38 +6,18 @@
 //! in `docs/MAP.md`.
 #![tactic(auto)]
 
-mod above;
-mod applied;
-mod asked;
-mod common_names;
 mod details;
-mod initial;
-mod keys;
 mod last;
 pub mod laws;
-mod limits;
-mod matching;
-mod oids;
 mod own;
-mod policies;
 mod processed;
-mod purposes;
-mod readable;
-mod settings;
-mod trusted;
-mod trusted_buf;
 mod validate;
-mod validated;
-mod validation_fault;
 mod validator;
 
 pub use details::{OutOfDate, fault_extension, out_of_date};
-pub use keys::working_key;
 pub use last::last_fault;
-pub use settings::PathSettings;
-pub use trusted::Trusted;
-pub use trusted_buf::TrustedBuf;
 pub use validate::{validate_path, validate_path_lent};
-pub use validated::Validated;
-pub use validation_fault::{ValidationFault, ValidationReason};
+pub use x509_path_steps::{
+    PathSettings, Trusted, TrustedBuf, Validated, ValidationFault, ValidationReason, working_key,
+};
 pub use x509_policy::AnchorFlags;

@@ -3,17 +3,17 @@
 ghost use Rattle.std.specs.Prelude.{◌↔◌, ◌≡◌, IfOk, IsTrue};
 ghost use Rattle.x509_path.specs.Certificates as certificates;
 ghost use Rattle.x509_path.specs.Lent.{Lends, lent_extensions};
+ghost use Rattle.x509_path_steps.specs.Validation.{HasOtherVersion};
 ghost use Rattle.x509_validation.specs.Last.{HasOwnFault};
-ghost use Rattle.x509_validation.specs.Validation.{HasOtherVersion};
 
 use crate::processed::{are_processed, are_spelled};
-use crate::validation_fault::ValidationReason;
 use std::alloc::{AllocError, Global};
 use x509_base::DateTime;
 use x509_cert::certificate::Version;
 use x509_check::{CertificateRef, ExtensionRef};
 use x509_path::certificate::{has_two_algorithms, is_outside};
 use x509_path::extensions::is_repeated;
+use x509_path_steps::ValidationReason;
 
 /// Whether there are extensions, and the version isn't 3.
 fn has_other_version(certificate: &CertificateRef<'_>, extensions: &[ExtensionRef<'_>]) -> bool

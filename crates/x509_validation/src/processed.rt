@@ -1,21 +1,20 @@
 //! The extensions that are looked at where a path is validated.
 
-ghost use Rattle.std.specs.Prelude.{◌≡◌, ◌↔◌, IfOk, IsTrue, Some, Option, true};
+ghost use Rattle.std.specs.Prelude.{◌≡◌, ◌↔◌, IsTrue, true};
 ghost use Rattle.std.specs.List.{All};
 ghost use Rattle.x509_check.specs.ExtensionRefs.{lent_extension};
-ghost use Rattle.x509_path.specs.Certificates as certificates;
 ghost use Rattle.x509_path.specs.Lent.{lent_extensions};
-ghost use Rattle.x509_validation.specs.Validation.{AreProcessed, AreSpelled, IsAboutPolicies, IsDecodable, IsOfUse, IsPolicySpelled, IsProcessed, IsSpelled, IsUseSpelled, LacksUsage};
+ghost use Rattle.x509_path_steps.specs.Validation.{AreProcessed, AreSpelled, IsAboutPolicies, IsDecodable, IsOfUse, IsPolicySpelled, IsProcessed, IsSpelled, IsUseSpelled, LacksUsage};
 
 use bitflags::Flags;
-use std::alloc::{AllocError, Global};
+use std::alloc::Global;
 use x509_check::{Check, ExtensionRef};
-use x509_der::{AssociatedOid, Decode, ErrorKind};
+use x509_der::AssociatedOid;
 use x509_ext::pkix::{
     BasicConstraints, CertificatePolicies, ExtendedKeyUsage, InhibitAnyPolicy, KeyUsage,
     NameConstraints, PolicyConstraints, PolicyMappings, SubjectAltName,
 };
-use x509_path::extensions::{find_one, payload};
+use x509_path::extensions::payload;
 
 /// Whether each critical extension is of a type that is processed here, where a purpose is asked for or isn't.
 pub(crate) fn are_processed(asks_purpose: bool, extensions: &[ExtensionRef<'_>]) -> bool
@@ -120,25 +119,4 @@ pub(crate) fn are_spelled(extensions: &[ExtensionRef<'_>]) -> bool
         }
     }
     true
-}
-
-/// The value of the one extension of the type; `None` where there isn't one that can be decoded.
-pub(crate) fn owned_payload<T: AssociatedOid + Decode>(
-    alloc: Global,
-    extensions: &[ExtensionRef<'_>],
-) -> Result<Option<T>, AllocError>
-    ensures { IfOk result (λ found. (value : T) → certificates.HasPayload T.form T.OID (lent_extensions extensions.now) value ↔ (found ≡ Some value)) }
-{
-    let Some(octets) = find_one(extensions, T::OID) else {
-        return Ok(None);
-    };
-    match T::from_der(alloc, octets) {
-        Ok(value) => Ok(Some(value)),
-        Err(e) => {
-            if e.kind() == ErrorKind::Memory {
-                return Err(AllocError);
-            }
-            Ok(None)
-        }
-    }
 }

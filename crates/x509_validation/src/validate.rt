@@ -1,28 +1,17 @@
 //! Validating a path.
 
 ghost use Rattle.std.specs.Prelude.{◌≡◌, ◌++◌, ◌∷◌, ◌+◌, ◌<◌, [], ℕ, List, MatchOption, MatchResult, Ok, Err, false, length, map, suc, true};
-ghost use Rattle.x509_path.specs.Certificates.{Certificate};
-ghost use Rattle.x509_validation.specs.Inputs.{AreUnreadable, Inputs, LendsInputs, SpellsOption};
-ghost use Rattle.x509_validation.specs.Keys.{key_behind, parameters_of};
 ghost use Rattle.x509_der.specs.Any.{any};
+ghost use Rattle.x509_path.specs.Certificates.{Certificate};
 ghost use Rattle.x509_path.specs.Lent.{Lends, LendsAnchor};
 ghost use Rattle.x509_path.specs.Path.{subject_of};
-ghost use Rattle.x509_validation.specs.Steps.{Carries, EndsUnder, IsBehind, Judges, Stands, standing};
-ghost use Rattle.x509_validation.specs.Validation.{Answers, AnswersUnreadable};
 ghost use Rattle.x509_path.specs.declared.anchor.Anchor.{Anchor};
+ghost use Rattle.x509_path_steps.specs.Inputs.{AreUnreadable, Inputs, LendsInputs, SpellsOption};
+ghost use Rattle.x509_path_steps.specs.Keys.{key_behind, parameters_of};
+ghost use Rattle.x509_path_steps.specs.Validation.{Answers, AnswersUnreadable};
 ghost use Rattle.x509_policy.specs.Views.{octets_of};
+ghost use Rattle.x509_validation.specs.Judging.{Carries, EndsUnder, IsBehind, Judges, Stands, standing};
 
-use crate::above::Above;
-use crate::asked::{Asked, purposes_at_start};
-use crate::initial::{add_own, initial_sets};
-use crate::policies::{
-    add_said, any_policy_alone, end_said, merged_with, settings_at_start, user_policies,
-};
-use crate::readable::are_readable;
-use crate::settings::PathSettings;
-use crate::trusted::Trusted;
-use crate::validated::Validated;
-use crate::validation_fault::ValidationFault;
 use crate::validator::{Limits, Stand, Validator};
 use std::alloc::Global;
 use x509_check::CertificateRef;
@@ -30,6 +19,14 @@ use x509_path::extensions::path_len;
 use x509_path::lengths::narrow;
 use x509_path::trust::{Slices, Trust, Values};
 use x509_path::{SliceVerifier, Verifier};
+use x509_path_steps::above::Above;
+use x509_path_steps::asked::{Asked, purposes_at_start};
+use x509_path_steps::initial::{add_own, initial_sets};
+use x509_path_steps::policies::{
+    add_said, any_policy_alone, end_said, merged_with, settings_at_start, user_policies,
+};
+use x509_path_steps::readable::are_readable;
+use x509_path_steps::{PathSettings, Trusted, Validated, ValidationFault};
 use x509_policy::PolicyState;
 
 /// Those above the last, and the last.

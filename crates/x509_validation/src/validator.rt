@@ -3,20 +3,13 @@
 ghost use Rattle.std.specs.Prelude.{◌≡◌, ◌↔◌, IfOk, IsTrue, List, Option, false};
 ghost use Rattle.x509_path.specs.Certificates as certificates;
 ghost use Rattle.x509_path.specs.Lent.{Lends, lent_extensions};
-ghost use Rattle.x509_validation.specs.Steps.{AreConstraintsOf};
-ghost use Rattle.x509_validation.specs.Validation.{HasUnusable};
-ghost use Rattle.x509_validation.specs.declared.validation_fault.ValidationFault.TheVariants as faults;
-ghost use Rattle.x509_validation.specs.declared.validation_fault.ValidationReason.TheVariants as reasons;
+ghost use Rattle.x509_path_steps.specs.Steps.{AreConstraintsOf};
+ghost use Rattle.x509_path_steps.specs.Validation.{HasUnusable};
+ghost use Rattle.x509_path_steps.specs.declared.validation_fault.ValidationFault.TheVariants as faults;
+ghost use Rattle.x509_path_steps.specs.declared.validation_fault.ValidationReason.TheVariants as reasons;
 
-use crate::above::{Above, filled_in};
-use crate::asked::{Asked, is_authority};
-use crate::common_names::allows_common_names;
-use crate::matching::{is_asked, is_self_issued, names_match};
 use crate::own::has_own_fault;
-use crate::policies::{Said, said_of};
-use crate::processed::{lacks_usage, owned_payload};
-use crate::purposes::{is_any_asked, is_none_left, purposes_behind};
-use crate::validation_fault::{ValidationFault, ValidationReason};
+use crate::processed::lacks_usage;
 use std::alloc::{AllocError, Global};
 use x509_base::DateTime;
 use x509_check::{CertificateRef, ExtensionRef};
@@ -27,6 +20,14 @@ use x509_path::AnchorRef;
 use x509_path::extensions::{basic_constraints, lacks_key_cert_sign, lend_all, places};
 use x509_path::lengths::is_over;
 use x509_path::trust::{Trust, is_signed, known_value};
+use x509_path_steps::above::{Above, filled_in};
+use x509_path_steps::asked::{Asked, is_authority};
+use x509_path_steps::common_names::allows_common_names;
+use x509_path_steps::matching::{is_asked, is_self_issued, names_match};
+use x509_path_steps::payloads::owned_payload;
+use x509_path_steps::policies::{Said, said_of};
+use x509_path_steps::purposes::{is_any_asked, is_none_left, purposes_behind};
+use x509_path_steps::{ValidationFault, ValidationReason};
 
 /// The reasons after `Decode`, in their order, those of policies apart.
 const REASONS: [ValidationReason; 15] = [
@@ -140,15 +141,16 @@ fn is_unusable(constraints: &Option<NameConstraints>) -> bool
 
 impl<S: Trust> Validator<'_, S> {
     ghost use Rattle.std.specs.Prelude.{◌≡◌, ◌↔◌, ◌⊎◌, ℕ, List, Ok, Err, IfOk, IsTrue, MatchResult, true, false};
+    ghost use Rattle.x509_base.specs.declared.subject_public_key_info.SubjectPublicKeyInfo as keys;
     ghost use Rattle.x509_match.specs.Matching.{NamesMatch};
     ghost use Rattle.x509_path.specs.Certificates as certificates;
-    ghost use Rattle.x509_validation.specs.Inputs.{Inputs};
     ghost use Rattle.x509_path.specs.Lent.{Lends, LendsAnchor, lent_extensions};
-    ghost use Rattle.x509_base.specs.declared.subject_public_key_info.SubjectPublicKeyInfo as keys;
-    ghost use Rattle.x509_validation.specs.Steps.{HoldsKey, IsOwn, JudgesAlone, JudgesParts, Knows, Stands, standing};
-    ghost use Rattle.x509_validation.specs.Validation.{AreCommonNamesAllowed, AreNamesAllowed, Breaks, HasOtherCommonNames, HasOtherNames, LackPurpose, asked_at};
     ghost use Rattle.x509_path.specs.declared.anchor.Anchor.{Anchor};
-    ghost use Rattle.x509_validation.specs.declared.validation_fault.ValidationReason.TheVariants as reasons;
+    ghost use Rattle.x509_path_steps.specs.Inputs.{Inputs};
+    ghost use Rattle.x509_path_steps.specs.Steps.{HoldsKey};
+    ghost use Rattle.x509_path_steps.specs.Validation.{AreCommonNamesAllowed, AreNamesAllowed, Breaks, HasOtherCommonNames, HasOtherNames, LackPurpose, asked_at};
+    ghost use Rattle.x509_path_steps.specs.declared.validation_fault.ValidationReason.TheVariants as reasons;
+    ghost use Rattle.x509_validation.specs.Judging.{IsOwn, JudgesAlone, JudgesParts, Knows, Stands, standing};
 
     /// Whether the issuer doesn't match the name above.
     fn is_of_another(

@@ -8,14 +8,15 @@ use Rattle.x509_cert.specs.Certificate.{rfc5280_certificate}
 use Rattle.x509_cert.specs.Signed.{IsSignedPart}
 use Rattle.x509_der.specs.Form.{Spells}
 use Rattle.x509_path.specs.Certificates.{Accepting, Certificate, accept_all}
-use Rattle.x509_validation.specs.Inputs.{AreUnreadable, Inputs, LendsInputs}
-use Rattle.x509_validation.specs.Validation.{Answers, AnswersUnreadable, Gives, HasFault, PathIsValid}
-use Rattle.x509_validation.specs.declared.settings.PathSettings.{PathSettings}
-use Rattle.x509_validation.specs.declared.trusted.Trusted.{Trusted}
-use Rattle.x509_validation.specs.declared.validated.Validated.{Validated}
-use Rattle.x509_validation.specs.declared.validation_fault.ValidationFault.{ValidationFault}
-use Rattle.x509_validation.specs.declared.validation_fault.ValidationFault.TheVariants.{Memory, Empty, Initial, At}
-use Rattle.x509_validation.specs.declared.validation_fault.ValidationReason.TheVariants.{Signature}
+use Rattle.x509_path_steps.specs.Inputs.{AreUnreadable, Inputs, LendsInputs}
+use Rattle.x509_path_steps.specs.Validation.{Answers, AnswersUnreadable, Gives, HasFault, PathIsValid}
+use Rattle.x509_path_steps.specs.declared.settings.PathSettings.{PathSettings}
+use Rattle.x509_path_steps.specs.declared.trusted.Trusted.{Trusted}
+use Rattle.x509_path_steps.specs.declared.validated.Validated.{Validated}
+use Rattle.x509_path_steps.specs.declared.validation_fault.ValidationFault.{ValidationFault}
+use Rattle.x509_path_steps.specs.declared.validation_fault.ValidationFault.TheVariants.{Memory, Empty, Initial, At}
+use Rattle.x509_path_steps.specs.declared.validation_fault.ValidationReason.TheVariants.{Signature}
+use Rattle.x509_verify.proofs.Signing.{no_unsigned, refused, refuses, unsigned_fault}
 use Rattle.x509_verify.specs.Found.{AreDistinct, AreLinked, IsAbove, IsFound, IsRefusal, IsValidUnder, LeadsTo, Refuses, Wanted, octets}
 use Rattle.x509_verify.specs.Named.{Name}
 use Rattle.x509_verify.specs.Progress.{AreSigned, IsAnswer, IsOnPath, IsRight, IsTriedUnder, IsUnsignedAt}
@@ -23,7 +24,6 @@ use Rattle.x509_verify.specs.declared.found.Found.{Found}
 use Rattle.x509_verify.specs.declared.progress.Asked.{Asked}
 use Rattle.x509_verify.specs.declared.progress.Progress.{Progress}
 use Rattle.x509_verify.specs.declared.refusal.Refusal.{Refusal}
-use Rattle.x509_verify.proofs.Signing.{no_unsigned, refused, refuses, unsigned_fault}
 
 -- what stands above the certificate on the path
 pub standing : (wanted : Wanted) (path : List (List ℕ)) (left : ℕ) (on : IsOnPath wanted path left) → IsAbove wanted on.above

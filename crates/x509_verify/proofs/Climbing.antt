@@ -8,9 +8,9 @@ use Rattle.x509_match.specs.Matching.{NamesMatch}
 use Rattle.x509_path.specs.Certificates.{Accepting, Certificate}
 use Rattle.x509_path.specs.Path.{Faults, HasFaultBehind, subject_of}
 use Rattle.x509_path.specs.declared.anchor.Anchor.{Anchor}
-use Rattle.x509_validation.specs.Inputs.{Inputs}
-use Rattle.x509_validation.specs.Validation.{HasFault, PathIsValid, faults_at}
-use Rattle.x509_validation.specs.declared.validation_fault.ValidationReason.TheVariants.{Issuer}
+use Rattle.x509_path_steps.specs.Inputs.{Inputs}
+use Rattle.x509_path_steps.specs.Validation.{HasFault, PathIsValid, faults_at}
+use Rattle.x509_path_steps.specs.declared.validation_fault.ValidationReason.TheVariants.{Issuer}
 use Rattle.x509_verify.specs.Found.{AreDistinct}
 use Rattle.x509_verify.specs.Named.{IsDecodable}
 use Rattle.x509_verify.specs.Progress.{AreDecodable, climbed}

@@ -7,13 +7,13 @@ use Rattle.std.proofs.lemmas.Bool.{cases_lt, true≢false}
 use Rattle.std.proofs.lemmas.List.{length-map}
 use Rattle.std.proofs.lemmas.List.Elements.{All-nil}
 use Rattle.x509_path.specs.Certificates.{Accepting}
-use Rattle.x509_validation.specs.declared.trusted.Trusted.{Trusted}
+use Rattle.x509_path_steps.specs.declared.trusted.Trusted.{Trusted}
+use Rattle.x509_verify.proofs.Climbing.{upwards}
 use Rattle.x509_verify.specs.Found.{Answers, AreDistinct, AreLinked, IsAbove, IsFound, IsLinkedTo, IsRefusal, IsShortest, IsSound, IsValidUnder, LeadsTo, NoneIsLinked, NoneLeads, Wanted, octets, told_by}
 use Rattle.x509_verify.specs.Progress.{AreTriedBelow, IsAnswer, IsOnPath, IsRight, IsTried, MayStand, climbed, up_to}
 use Rattle.x509_verify.specs.declared.found.Found.{Found}
 use Rattle.x509_verify.specs.declared.progress.Progress.{Progress}
 use Rattle.x509_verify.specs.declared.refusal.Refusal.{Refusal}
-use Rattle.x509_verify.proofs.Climbing.{upwards}
 
 module _ (accepts : Accepting) (wanted : Wanted) where
   -- ---- what is within fewer candidates is within more

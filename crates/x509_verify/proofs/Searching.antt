@@ -5,24 +5,24 @@ use Rattle.std.specs.Prelude.{IsSome}
 use Rattle.std.proofs.lemmas.Bool.{true≢false}
 use Rattle.std.proofs.lemmas.List.Elements.{All-cons, All-head, All-tail, All-contains, All-weaker}
 use Rattle.x509_der.specs.Form.{Spells}
+use Rattle.x509_match.proofs.KeysAgree.{names_match-sym}
 use Rattle.x509_match.specs.Matching.{NamesMatch}
 use Rattle.x509_match.specs.NameKeys.{IsNameKey}
 use Rattle.x509_match.specs.declared.key.MatchedName.{MatchedName}
-use Rattle.x509_match.proofs.KeysAgree.{names_match-sym}
 use Rattle.x509_name.specs.Names.{name}
+use Rattle.x509_path.proofs.Firsts.{one_certificate}
 use Rattle.x509_path.specs.Certificates.{Accepting, Certificate}
 use Rattle.x509_path.specs.Lent.{Lends}
-use Rattle.x509_path.proofs.Firsts.{one_certificate}
-use Rattle.x509_validation.specs.Inputs.{Inputs, LendsInputs}
-use Rattle.x509_validation.specs.declared.trusted.Trusted.{Trusted}
+use Rattle.x509_path_steps.specs.Inputs.{Inputs, LendsInputs}
+use Rattle.x509_path_steps.specs.declared.trusted.Trusted.{Trusted}
+use Rattle.x509_verify.proofs.Climbing.{distinct_below, downwards, first_issuer, next_issuer}
+use Rattle.x509_verify.proofs.Keys.{from_map}
 use Rattle.x509_verify.specs.Found.{AreDistinct, AreLinked, IsValidUnder, Wanted}
 use Rattle.x509_verify.specs.Named.{IsDecodable, IsUnderName, IsUnderSubject, Name}
 use Rattle.x509_verify.specs.Progress.{AreDecodable, AreTried, HasIssuerKey, IsOnPath, IsTried, IsTriedUnder, MayStand, climbed}
-use Rattle.x509_verify.specs.declared.keyed.Keyed.{Keyed}
 use Rattle.x509_verify.specs.declared.candidate.Candidate.{Candidate}
+use Rattle.x509_verify.specs.declared.keyed.Keyed.{Keyed}
 use Rattle.x509_verify.specs.declared.refusal.Refusal.{Refusal}
-use Rattle.x509_verify.proofs.Climbing.{distinct_below, downwards, first_issuer, next_issuer}
-use Rattle.x509_verify.proofs.Keys.{from_map}
 
 -- one that was tried counts as tried behind more that was noted
 pub later : (accepts : Accepting) (wanted : Wanted) (trusted : Trusted) (path : List (List ℕ)) (before after : Option Refusal) → (IsSome before → IsSome after)

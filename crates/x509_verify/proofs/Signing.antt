@@ -5,19 +5,19 @@ use Rattle.x509_base.specs.declared.subject_public_key_info.SubjectPublicKeyInfo
 use Rattle.x509_cert.specs.Certificate.{rfc5280_certificate}
 use Rattle.x509_cert.specs.Signed.{IsSignedPart}
 use Rattle.x509_der.specs.Form.{Spells}
+use Rattle.x509_path.proofs.Firsts.{one_certificate}
 use Rattle.x509_path.specs.Certificates.{Accepting, Certificate, IsSigned, accept_all}
 use Rattle.x509_path.specs.Lent.{Lends}
 use Rattle.x509_path.specs.Path.{HasFaultBehind, subject_of}
 use Rattle.x509_path.specs.declared.anchor.Anchor.{Anchor}
-use Rattle.x509_path.proofs.Firsts.{one_certificate}
-use Rattle.x509_validation.specs.Inputs.{Inputs}
-use Rattle.x509_validation.specs.Keys.{key_behind, working_key}
-use Rattle.x509_validation.specs.Validation.{AreUnusable, Answers, HasFault, PathIsValid, faults_at}
-use Rattle.x509_validation.specs.declared.validation_fault.ValidationFault.{ValidationFault}
-use Rattle.x509_validation.specs.declared.validation_fault.ValidationFault.TheVariants.{Memory, Empty, Initial, At}
-use Rattle.x509_validation.specs.declared.validation_fault.ValidationReason.{ValidationReason}
-use Rattle.x509_validation.specs.declared.validation_fault.ValidationReason.TheVariants.{Signature}
-use Rattle.x509_validation.proofs.WorkingKeys.{one_behind}
+use Rattle.x509_path_steps.proofs.WorkingKeys.{one_behind}
+use Rattle.x509_path_steps.specs.Inputs.{Inputs}
+use Rattle.x509_path_steps.specs.Keys.{key_behind, working_key}
+use Rattle.x509_path_steps.specs.Validation.{AreUnusable, Answers, HasFault, PathIsValid, faults_at}
+use Rattle.x509_path_steps.specs.declared.validation_fault.ValidationFault.{ValidationFault}
+use Rattle.x509_path_steps.specs.declared.validation_fault.ValidationFault.TheVariants.{Memory, Empty, Initial, At}
+use Rattle.x509_path_steps.specs.declared.validation_fault.ValidationReason.{ValidationReason}
+use Rattle.x509_path_steps.specs.declared.validation_fault.ValidationReason.TheVariants.{Signature}
 use Rattle.x509_verify.specs.Found.{Refuses}
 use Rattle.x509_verify.specs.Progress.{AreSigned, IsUnsignedAt}
 

@@ -6,7 +6,7 @@ use Rattle.x509_base.specs.declared.subject_public_key_info.SubjectPublicKeyInfo
 use Rattle.x509_der.specs.Form.{Spells}
 use Rattle.x509_path.specs.Certificates.{Accepting, Certificate, IsSigned}
 use Rattle.x509_path.specs.Lent.{Lends}
-use Rattle.x509_validation.specs.Keys.{working_key}
+use Rattle.x509_path_steps.specs.Keys.{working_key}
 use Rattle.x509_verify.specs.Progress.{AreSigned, IsUnsignedAt}
 
 -- behind so many certificates the key is this one, and what holds of the rest of the path under it holds of the whole

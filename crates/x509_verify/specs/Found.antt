@@ -7,14 +7,14 @@ use Rattle.x509_der.specs.Form.{Spells}
 use Rattle.x509_match.specs.Matching.{NamesMatch}
 use Rattle.x509_name.specs.Names.{name}
 use Rattle.x509_path.specs.Certificates.{Accepting, Certificate}
-use Rattle.x509_validation.specs.Inputs.{AreUnreadable, Inputs, LendsInputs}
+use Rattle.x509_path_steps.specs.Inputs.{AreUnreadable, Inputs, LendsInputs}
+use Rattle.x509_path_steps.specs.Validation.{AreUnusable, Gives, HasFault, PathIsValid}
+use Rattle.x509_path_steps.specs.declared.settings.PathSettings.{PathSettings}
+use Rattle.x509_path_steps.specs.declared.trusted.Trusted.{Trusted}
+use Rattle.x509_path_steps.specs.declared.validation_fault.ValidationFault.{ValidationFault}
+use Rattle.x509_path_steps.specs.declared.validation_fault.ValidationFault.TheVariants.{Memory as NoMemory, Empty, Initial, At}
+use Rattle.x509_path_steps.specs.declared.validation_fault.ValidationReason.{ValidationReason}
 use Rattle.x509_validation.specs.Last.{TellsAlone, asked_alone}
-use Rattle.x509_validation.specs.Validation.{AreUnusable, Gives, HasFault, PathIsValid}
-use Rattle.x509_validation.specs.declared.settings.PathSettings.{PathSettings}
-use Rattle.x509_validation.specs.declared.trusted.Trusted.{Trusted}
-use Rattle.x509_validation.specs.declared.validation_fault.ValidationFault.{ValidationFault}
-use Rattle.x509_validation.specs.declared.validation_fault.ValidationFault.TheVariants.{Memory as NoMemory, Empty, Initial, At}
-use Rattle.x509_validation.specs.declared.validation_fault.ValidationReason.{ValidationReason}
 use Rattle.x509_verify.specs.Named.{IsDecodable, Name}
 use Rattle.x509_verify.specs.declared.find_error.FindError.{FindError}
 use Rattle.x509_verify.specs.declared.find_error.FindError.TheVariants.{Memory, Limit, Decode, Leaf, UnknownIssuer, Refused}

@@ -1,6 +1,6 @@
 -- What is given to find a path: anchors and candidates.
 use Rattle.std.specs.Prelude.{ℕ, List, map}
-use Rattle.x509_validation.specs.declared.trusted.Trusted.{Trusted}
+use Rattle.x509_path_steps.specs.declared.trusted.Trusted.{Trusted}
 use Rattle.x509_verify.specs.declared.anchors.Anchors.{Anchors}
 use Rattle.x509_verify.specs.declared.pool.Pool.{Pool}
 

@@ -8,7 +8,7 @@ use Rattle.x509_name.specs.Names.{name}
 use Rattle.x509_name.specs.declared.attr.type_and_value.AttributeTypeAndValue.{AttributeTypeAndValue}
 use Rattle.x509_path.specs.Certificates.{Certificate}
 use Rattle.x509_path.specs.Lent.{Lends}
-use Rattle.x509_validation.specs.declared.trusted.Trusted.{Trusted}
+use Rattle.x509_path_steps.specs.declared.trusted.Trusted.{Trusted}
 use Rattle.x509_verify.specs.declared.candidate.Candidate.{Candidate}
 use Rattle.x509_verify.specs.declared.keyed.Keyed.{Keyed}
 

@@ -11,9 +11,9 @@ use Rattle.x509_match.specs.declared.key.MatchedName.{MatchedName}
 use Rattle.x509_name.specs.Names.{name}
 use Rattle.x509_path.specs.Certificates.{Accepting, Certificate, IsSigned}
 use Rattle.x509_path.specs.Lent.{Lends}
-use Rattle.x509_validation.specs.Keys.{working_key}
-use Rattle.x509_validation.specs.declared.settings.PathSettings.{PathSettings}
-use Rattle.x509_validation.specs.declared.trusted.Trusted.{Trusted}
+use Rattle.x509_path_steps.specs.Keys.{working_key}
+use Rattle.x509_path_steps.specs.declared.settings.PathSettings.{PathSettings}
+use Rattle.x509_path_steps.specs.declared.trusted.Trusted.{Trusted}
 use Rattle.x509_verify.specs.Effort.{Effort}
 use Rattle.x509_verify.specs.Found.{AreDistinct, AreLinked, IsFound, IsLinkedTo, IsRefusal, IsShortest, IsValidUnder, LeadsTo, Wanted, octets}
 use Rattle.x509_verify.specs.Given.{candidates_of, trusted_of}

@@ -21,7 +21,7 @@ pub struct Anchors<'a> {
 
 impl<'a> Anchors<'a> {
     ghost use Rattle.std.specs.Prelude.{◌↔◌, Contains, IfOk, map};
-    ghost use Rattle.x509_validation.specs.declared.trusted.Trusted as trusts;
+    ghost use Rattle.x509_path_steps.specs.declared.trusted.Trusted as trusts;
     ghost use Rattle.x509_verify.specs.Named.{IsNamed};
 
     /// Those of the trusted whose names can be decoded: under another one no path is valid. Names are compared as they match (RFC

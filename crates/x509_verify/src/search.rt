@@ -69,11 +69,11 @@ fn put_above<'a>(
 impl<'s, 'a, V: SliceVerifier> Search<'s, 'a, V> {
     ghost use Rattle.std.specs.List.{All};
     ghost use Rattle.std.specs.Prelude.{◌≡◌, ◌∷◌, ◌+◌, ◌*◌, [], ℕ, suc, Contains, MatchOption, MatchResult, None, length};
+    ghost use Rattle.x509_path_steps.specs.declared.trusted.Trusted as trusts;
     ghost use Rattle.x509_verify.specs.Effort.{anchored, effort, effort_below};
     ghost use Rattle.x509_verify.specs.Found.{Wanted, octets};
-    ghost use Rattle.x509_verify.specs.Progress.{AreDecodable, IsOnPath, IsRight, IsSearched, KnowsIssuer};
     ghost use Rattle.x509_verify.specs.Progress as searches;
-    ghost use Rattle.x509_validation.specs.declared.trusted.Trusted as trusts;
+    ghost use Rattle.x509_verify.specs.Progress.{AreDecodable, IsOnPath, IsRight, IsSearched, KnowsIssuer};
 
     /// The path under what is trusted, if it is valid.
     fn attempt(

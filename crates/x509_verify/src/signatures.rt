@@ -8,7 +8,7 @@ ghost use Rattle.x509_der.specs.Form.{Spells};
 ghost use Rattle.x509_path.specs.Certificates as certificates;
 ghost use Rattle.x509_path.specs.Certificates.{Accepting};
 ghost use Rattle.x509_path.specs.Lent.{Lends};
-ghost use Rattle.x509_validation.specs.Keys as keyed;
+ghost use Rattle.x509_path_steps.specs.Keys as keyed;
 ghost use Rattle.x509_verify.specs.Found.{octets};
 ghost use Rattle.x509_verify.specs.Progress.{AreDecodable, IsAnswer, TellsSigned};
 ghost use Rattle.x509_verify.specs.declared.progress.Stop.TheVariants as stops;

@@ -1,7 +1,7 @@
 //! Keys as they are used under others.
 
 ghost use Rattle.x509_c_calls.specs.Status.{Fills};
-ghost use Rattle.x509_validation.specs.WorkingKeys.{AnswersKey};
+ghost use Rattle.x509_path_steps.specs.WorkingKeys.{AnswersKey};
 
 use crate::{Status, fill};
 use std::alloc::Global;

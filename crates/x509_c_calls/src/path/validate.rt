@@ -2,10 +2,10 @@
 
 ghost use Rattle.std.specs.Prelude.{◌≡◌, ◌≢◌, ◌≤◌, ◌++◌, [], drop, length, map, take, IfOk, MatchResult, Option};
 ghost use Rattle.x509_c_calls.specs.PathValidation.{AreConstraints, TellsValidation, Validates, ValidatesUnderAnchor, ValidatesUnderCertificate, ValidatesUnderKey, known_purposes, named_purposes, own_purposes, set_of};
-ghost use Rattle.x509_policy.specs.Views.{octets_of};
-ghost use Rattle.x509_ext.specs.declared.pkix.name_constraints.NameConstraints as values;
 ghost use Rattle.x509_ext.specs.NameConstraints.{name_constraints};
-ghost use Rattle.x509_validation.specs.Inputs.{Inputs, LendsConstraints, LendsInputs, LendsTrust, Trust};
+ghost use Rattle.x509_ext.specs.declared.pkix.name_constraints.NameConstraints as values;
+ghost use Rattle.x509_path_steps.specs.Inputs.{Inputs, LendsConstraints, LendsInputs, LendsTrust, Trust};
+ghost use Rattle.x509_policy.specs.Views.{octets_of};
 ghost use Rattle.x509_types.specs.Reencoding.{IsRefused};
 
 use crate::Status;

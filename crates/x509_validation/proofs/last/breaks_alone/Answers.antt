@@ -1,11 +1,11 @@
 use Rattle.std.proofs.Common.{◌≡◌, ◌∙◌, ◌↔◌, subst, sym}
 use Rattle.std.proofs.lemmas.Result.{IfOk-weaker}
 use Rattle.std.specs.Bool.{IsTrue}
-use Rattle.x509_validation.specs.Inputs.{purposes_of}
-use Rattle.x509_validation.specs.Last.{HasOwnFault, asked_alone}
-use Rattle.x509_validation.specs.Validation.{asks_purpose}
+use Rattle.x509_path_steps.specs.Inputs.{purposes_of}
+use Rattle.x509_path_steps.specs.Validation.{asks_purpose}
 use Rattle.x509_validation.proofs.OwnFaults.{asks_given, of_last}
 use Rattle.x509_validation.proofs.last.breaks_alone.Goals as goal
+use Rattle.x509_validation.specs.Last.{HasOwnFault, asked_alone}
 
 pub returns-in_default : goal.returns-in_default
 returns-in_default c = IfOk-weaker c.has_own_fault.result _ _ (λ b said certificate lends same.

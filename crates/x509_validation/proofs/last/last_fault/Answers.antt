@@ -4,10 +4,10 @@ use Rattle.std.proofs.lemmas.List.{take_all}
 use Rattle.std.proofs.lemmas.List.Elements.{All-more}
 use Rattle.std.specs.List.{All}
 use Rattle.x509_path.specs.Lent.{lent_extensions}
-use Rattle.x509_validation.specs.Last.{BreaksAlone, asked_alone, lone_reasons}
-use Rattle.x509_validation.specs.declared.validation_fault.ValidationReason.TheVariants.{Decode}
+use Rattle.x509_path_steps.specs.declared.validation_fault.ValidationReason.TheVariants.{Decode}
 use Rattle.x509_validation.proofs.Lasts.{first_lone, none_lone}
 use Rattle.x509_validation.proofs.last.last_fault.Goals as goal
+use Rattle.x509_validation.specs.Last.{BreaksAlone, asked_alone, lone_reasons}
 
 pub loop-reason-preserved : goal.loop-reason-preserved
 loop-reason-preserved c = λ certificate lends.

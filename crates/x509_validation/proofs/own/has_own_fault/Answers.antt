@@ -1,8 +1,8 @@
 use Rattle.std.proofs.Common.{◌↔◌, subst}
 use Rattle.std.specs.Bool.{IsTrue}
-use Rattle.x509_path.specs.Certificates.{extensions_of}
-use Rattle.x509_validation.specs.Validation.{AreProcessed, AreSpelled}
 use Rattle.x509_path.proofs.Lent.{differ}
+use Rattle.x509_path.specs.Certificates.{extensions_of}
+use Rattle.x509_path_steps.specs.Validation.{AreProcessed, AreSpelled}
 use Rattle.x509_validation.proofs.own.has_own_fault.Goals as goal
 
 pub returns-in-Extension : goal.returns-in-Extension

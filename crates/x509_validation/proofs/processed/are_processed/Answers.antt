@@ -1,8 +1,8 @@
 use Rattle.std.proofs.Common.{◌≡◌, ◌∙◌, Bool, true, sym}
 use Rattle.std.proofs.lemmas.Bool.{true≢false}
 use Rattle.x509_ext.specs.declared.extension.Extension.{Extension}
-use Rattle.x509_validation.specs.Validation.{IsProcessed}
 use Rattle.x509_path.proofs.Looks.{OfLent, all_hold, one_fails, one_more}
+use Rattle.x509_path_steps.specs.Validation.{IsProcessed}
 use Rattle.x509_validation.proofs.processed.are_processed.Goals as goal
 use Rattle.x509_validation.proofs.processed.are_processed.Goals.{else-extension-via-then-extension+else-not-is_processed, else-extension-via-else-extension}
 

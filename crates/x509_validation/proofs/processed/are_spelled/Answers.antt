@@ -1,7 +1,7 @@
 use Rattle.std.proofs.Common.{◌∙◌, sym}
 use Rattle.std.proofs.lemmas.Bool.{true≢false}
-use Rattle.x509_validation.specs.Validation.{IsDecodable}
 use Rattle.x509_path.proofs.Looks.{all_hold, one_fails, one_more}
+use Rattle.x509_path_steps.specs.Validation.{IsDecodable}
 use Rattle.x509_validation.proofs.processed.are_spelled.Goals as goal
 
 pub returns-then-not-is_decodable : goal.returns-then-not-is_decodable

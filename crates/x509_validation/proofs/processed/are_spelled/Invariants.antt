@@ -1,7 +1,7 @@
 use Rattle.std.proofs.Common.{take}
 use Rattle.std.specs.List.{All}
 use Rattle.x509_check.specs.ExtensionRefs.{lent_extension}
-use Rattle.x509_validation.specs.Validation.{IsDecodable}
+use Rattle.x509_path_steps.specs.Validation.{IsDecodable}
 use Rattle.x509_validation.proofs.processed.are_spelled.Given as goal
 
 abbrev pub invariant-loop-extension : goal.invariant-loop-extension

@@ -1,6 +1,6 @@
 use Rattle.std.proofs.Common.{◌≡◌, ◌∙◌, false, ap, not, refl, rules, subst, sym}
 use Rattle.std.proofs.lemmas.Bool.{not-true, true≢false}
-use Rattle.x509_validation.specs.Validation.{has_all}
+use Rattle.x509_path_steps.specs.Validation.{has_all}
 use Rattle.x509_validation.proofs.processed.lacks_usage.Goals as goal
 
 pub returns-in-Some : goal.returns-in-Some

@@ -1,17 +1,18 @@
 use Rattle.std.proofs.Common.{◌≡◌, Bor, List, ℕ, ◌++◌, ◌∷◌, [], Err, Ok, suc, true, length, sym, subst, arith}
 use Rattle.std.proofs.lemmas.Slice.Zip.{AllZip-long}
 use Rattle.x509_der.specs.Any.{any}
-use Rattle.x509_validation.specs.Inputs.{SpellsOption}
-use Rattle.x509_validation.specs.Keys.{key_behind, parameters_of, working_key}
-use Rattle.x509_validation.specs.Steps.{JudgesAlone, StopsAt, said_by, standing}
-use Rattle.x509_validation.specs.Says.{Says}
 use Rattle.x509_path.proofs.Along.{zip_push}
-use Rattle.x509_validation.proofs.LentPaths.{one_lent}
-use Rattle.x509_validation.proofs.WorkingKeys.{one_behind}
-use Rattle.x509_validation.proofs.PolicySteps.{ended, stopped}
+use Rattle.x509_path_steps.proofs.WorkingKeys.{one_behind}
+use Rattle.x509_path_steps.specs.Inputs.{SpellsOption}
+use Rattle.x509_path_steps.specs.Keys.{key_behind, parameters_of, working_key}
+use Rattle.x509_path_steps.specs.Says.{Says}
+use Rattle.x509_path_steps.specs.Steps.{StopsAt, said_by}
 use Rattle.x509_policy.specs.Follows.{Follows}
 use Rattle.x509_policy.specs.Views.{octets_of}
+use Rattle.x509_validation.proofs.LentPaths.{one_lent}
+use Rattle.x509_validation.proofs.PolicySteps.{ended, stopped}
 use Rattle.x509_validation.proofs.validate.end.Goals as goal
+use Rattle.x509_validation.specs.Judging.{JudgesAlone, standing}
 
 pub returns-in-Err : goal.returns-in-Err
 returns-in-Err g c = λ inputs above before stands carries late.

@@ -1,10 +1,11 @@
 use Rattle.std.proofs.Common.{◌+◌, ◌<◌, ◌++◌, ◌∷◌, [], Err, Ok, false, length, subst, arith}
 use Rattle.std.proofs.lemmas.Slice.Zip.{AllZip-long}
-use Rattle.x509_validation.specs.Steps.{JudgesAlone, said_by, standing}
-use Rattle.x509_validation.specs.Says.{Says}
 use Rattle.x509_path.proofs.Along.{zip_push}
+use Rattle.x509_path_steps.specs.Says.{Says}
+use Rattle.x509_path_steps.specs.Steps.{said_by}
 use Rattle.x509_validation.proofs.PolicySteps.{passed, stopped}
 use Rattle.x509_validation.proofs.validate.go_on.Goals as goal
+use Rattle.x509_validation.specs.Judging.{JudgesAlone, standing}
 
 pub returns-in-Err : goal.returns-in-Err
 returns-in-Err g c = λ inputs above before n stands carries early more.

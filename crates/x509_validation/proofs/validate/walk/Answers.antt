@@ -1,7 +1,7 @@
 use Rattle.std.proofs.Common.{◌∙◌, Bor, ℕ, List, Err, map, refl, subst, sym}
 use Rattle.std.proofs.lemmas.Bool.{true≢false}
-use Rattle.x509_validation.specs.Validation.{Answers, AnswersUnreadable}
-use Rattle.x509_validation.specs.declared.validation_fault.ValidationFault.TheVariants.{Empty, Initial}
+use Rattle.x509_path_steps.specs.Validation.{Answers, AnswersUnreadable}
+use Rattle.x509_path_steps.specs.declared.validation_fault.ValidationFault.TheVariants.{Empty, Initial}
 use Rattle.x509_validation.proofs.Stepping.{unreadable}
 use Rattle.x509_validation.proofs.validate.walk.Goals as goal
 

@@ -2,16 +2,16 @@ use Rattle.std.proofs.Common.{◌≡◌, ◌∙◌, ◌++◌, ◌∷◌, [], Lis
 use Rattle.std.proofs.lemmas.List.{length-map, take_all}
 use Rattle.std.proofs.lemmas.Result.{err_from_is_err_and}
 use Rattle.x509_match.specs.Matching.{NamesMatch}
+use Rattle.x509_path.proofs.PathLengths.{narrows}
 use Rattle.x509_path.specs.Certificates.{extensions_of}
 use Rattle.x509_path.specs.Lent.{LendsAnchor}
-use Rattle.x509_path.proofs.PathLengths.{narrows}
-use Rattle.x509_validation.specs.Keys.{key_behind}
-use Rattle.x509_validation.proofs.LentPaths.{next_lent}
-use Rattle.x509_validation.specs.Steps.{Carries, Judges, standing}
-use Rattle.x509_validation.proofs.Stepping.{Passed, at_front, at_last, early, further, late, none, none_behind, not_empty, refused, some_behind, starting, under, whole_length, with_its_parameters}
-use Rattle.x509_validation.specs.declared.asked.Asked.{Asked}
+use Rattle.x509_path_steps.specs.Keys.{key_behind}
+use Rattle.x509_path_steps.specs.declared.asked.Asked.{Asked}
 use Rattle.x509_policy.specs.Views.{octets_of}
+use Rattle.x509_validation.proofs.LentPaths.{next_lent}
+use Rattle.x509_validation.proofs.Stepping.{Passed, at_front, at_last, early, further, late, none, none_behind, not_empty, refused, some_behind, starting, under, whole_length, with_its_parameters}
 use Rattle.x509_validation.proofs.validate.walk_down.Goals as goal
+use Rattle.x509_validation.specs.Judging.{Carries, Judges, standing}
 
 -- what a read of a list of slices answers behind its end
 abbrev nothing : Bor (List ℕ)

@@ -1,8 +1,8 @@
 use Rattle.std.proofs.Common.{◌≡◌, map, take, ◌++◌, ◌∷◌, [], ◌+◌, length}
-use Rattle.x509_validation.specs.Inputs.{Inputs, LendsInputs}
-use Rattle.x509_validation.specs.Steps.{Carries}
+use Rattle.x509_path_steps.specs.Inputs.{Inputs, LendsInputs}
 use Rattle.x509_validation.proofs.Stepping.{Passed}
 use Rattle.x509_validation.proofs.validate.walk_down.Given as goal
+use Rattle.x509_validation.specs.Judging.{Carries}
 
 -- what was passed so far, and what is carried on
 abbrev pub invariant-loop-index : goal.invariant-loop-index

@@ -4,7 +4,7 @@ use Rattle.x509_der.specs.Form.{IsForm, Spells}
 use Rattle.x509_der.specs.SpellingLaws.{values}
 use Rattle.x509_der.specs.declared.error.ErrorKind.{ErrorKind}
 use Rattle.x509_path.proofs.Lent.{key_spells}
-use Rattle.x509_validation.specs.Keys.{working_key}
+use Rattle.x509_path_steps.specs.Keys.{working_key}
 use Rattle.x509_verify.proofs.signatures.key_below.Goals as goal
 
 abbrev Never : ErrorKind → Type 0

@@ -4,7 +4,7 @@ use Rattle.x509_c_calls.proofs.BadLinks.{accepts_but, opened_bad, opened_links}
 use Rattle.x509_c_calls.proofs.FoundPlaces.{are_named}
 use Rattle.x509_c_calls.proofs.path.find.find_under.Goals as goal
 use Rattle.x509_c_calls.specs.PathFinding.{FindsPath, IsAsked, LeftPath, TellsPath, links_in, parts, unlisted}
-use Rattle.x509_validation.specs.declared.trusted.Trusted.{Trusted}
+use Rattle.x509_path_steps.specs.declared.trusted.Trusted.{Trusted}
 use Rattle.x509_verify.specs.Found.{Wanted, octets}
 use Rattle.x509_verify.specs.Given.{candidates_of, trusted_of}
 use Rattle.x509_verify.specs.Named.{IsDecodable, IsNamed}

@@ -3,10 +3,10 @@ use Rattle.x509_c_calls.proofs.path.find.path_find.Goals as goal
 use Rattle.x509_c_calls.specs.PathFinding.{FindsPath}
 use Rattle.x509_c_calls.specs.PathValidation.{all_purposes, known_purposes, named_purposes, own_purpose_in, own_purposes, policies_asked, set_of, unless_none}
 use Rattle.x509_der.specs.declared.error.ErrorKind.TheVariants as kinds
+use Rattle.x509_path_steps.specs.Inputs.{asked_of, purposes_of}
+use Rattle.x509_path_steps.specs.declared.settings.PathSettings.{PathSettings}
 use Rattle.x509_policy.specs.Values.{Settings}
 use Rattle.x509_policy.specs.Views.{octets_of}
-use Rattle.x509_validation.specs.Inputs.{asked_of, purposes_of}
-use Rattle.x509_validation.specs.declared.settings.PathSettings.{PathSettings}
 
 pub returns-in_default : goal.returns-in_default
 unfolding FindsPath

@@ -1,7 +1,7 @@
 use Rattle.std.proofs.Common.{inr, subst, sym}
 use Rattle.x509_c_calls.proofs.path.find.trusted_by.Goals as goal
 use Rattle.x509_path.specs.Lent.{Lends}
-use Rattle.x509_validation.specs.Trusts.{RefusesSigned}
+use Rattle.x509_path_steps.specs.Trusts.{RefusesSigned}
 
 pub returns-in-Err-from_certificate : goal.returns-in-Err-from_certificate
 returns-in-Err-from_certificate c =

@@ -1,9 +1,9 @@
 use Rattle.std.proofs.Common.{refl, inl, None, sym, subst}
 use Rattle.x509_c_calls.proofs.path.validate.path_validate_under_key.Goals as goal
 use Rattle.x509_c_calls.specs.PathValidation.{ValidatesUnderKey, trust_in}
-use Rattle.x509_validation.specs.Inputs.{LendsConstraints, LendsPolicies, LendsTrust}
 use Rattle.x509_path.specs.Lent.{LendsAnchor}
 use Rattle.x509_path.specs.declared.anchor.Anchor.{Anchor}
+use Rattle.x509_path_steps.specs.Inputs.{LendsConstraints, LendsPolicies, LendsTrust}
 
 pub returns : goal.returns
 unfolding ValidatesUnderKey

@@ -3,7 +3,7 @@ use Rattle.x509_c_calls.proofs.PolicyOctets.{why_refused}
 use Rattle.x509_c_calls.proofs.path.validate.tell.Goals as goal
 use Rattle.x509_c_calls.specs.PathValidation.{IsSubjectOfLast, Left, PutsCertificates, TellsValidation, policies_octets}
 use Rattle.x509_c_calls.specs.Status.{IsPut}
-use Rattle.x509_validation.specs.Validation.{IsUnder}
+use Rattle.x509_path_steps.specs.Validation.{IsUnder}
 use Rattle.x509_policy.specs.Values.{Policy}
 use Rattle.x509_policy.specs.Views.{octets_of}
 

@@ -1,11 +1,11 @@
 use Rattle.std.proofs.Common.{◌≡◌, ◌∙◌, ◌++◌, not, refl, List, ℕ, Bor, Some, inl, inr, map, ap, subst, sym, take, drop}
+use Rattle.x509_c_calls.proofs.PolicyOids.{are_oids}
+use Rattle.x509_c_calls.proofs.path.validate.validate_under.Goals as goal
 use Rattle.x509_c_calls.specs.PathValidation.{Asks, Left, TellsValidation, Validates, all_purposes, bare_settings, known_purposes, named_purposes, own_purpose_in, own_purposes, policies_asked, set_of, unless_none}
 use Rattle.x509_c_calls.specs.Pieces.{AreCut}
-use Rattle.x509_c_calls.proofs.path.validate.validate_under.Goals as goal
-use Rattle.x509_c_calls.proofs.PolicyOids.{are_oids}
 use Rattle.x509_der.specs.declared.error.ErrorKind.TheVariants as kinds
-use Rattle.x509_validation.specs.Inputs.{AreOids, Inputs, LendsInputs, asked_of, purposes_of, uses_of}
-use Rattle.x509_validation.specs.declared.settings.PathSettings.{PathSettings}
+use Rattle.x509_path_steps.specs.Inputs.{AreOids, Inputs, LendsInputs, asked_of, purposes_of, uses_of}
+use Rattle.x509_path_steps.specs.declared.settings.PathSettings.{PathSettings}
 use Rattle.x509_policy.specs.Values.{Settings}
 use Rattle.x509_policy.specs.Views.{octets_of}
 

@@ -4,10 +4,10 @@ use Rattle.std.specs.Option.{option_copied}
 use Rattle.x509_constraints.specs.Constraints.{AreAllowed, names_asked}
 use Rattle.x509_ext.specs.AlternativeNames.{subject_alt_name}
 use Rattle.x509_ext.specs.Identifiers.{id_ce}
-use Rattle.x509_path.specs.Certificates.{HasPayload}
-use Rattle.x509_validation.specs.Validation.{HasAlternativeNames}
-use Rattle.x509_validation.proofs.AllowedNames.{allowed}
 use Rattle.x509_path.proofs.Lent.{subject_spells}
+use Rattle.x509_path.specs.Certificates.{HasPayload}
+use Rattle.x509_path_steps.proofs.AllowedNames.{allowed}
+use Rattle.x509_path_steps.specs.Validation.{HasAlternativeNames}
 use Rattle.x509_validation.proofs.validator.Validator.are_allowed.Goals as goal
 
 pub returns : goal.returns

@@ -4,11 +4,11 @@ use Rattle.std.specs.List.{All}
 use Rattle.std.specs.Option.{option_copied}
 use Rattle.x509_ext.specs.AlternativeNames.{subject_alt_name}
 use Rattle.x509_ext.specs.Identifiers.{id_ce}
-use Rattle.x509_path.specs.Certificates.{HasPayload}
-use Rattle.x509_validation.specs.ServerNames.{IsOneAllowed}
-use Rattle.x509_validation.specs.Validation.{HasAlternativeNames}
-use Rattle.x509_validation.proofs.CommonNames.{common_allowed}
 use Rattle.x509_path.proofs.Lent.{subject_spells}
+use Rattle.x509_path.specs.Certificates.{HasPayload}
+use Rattle.x509_path_steps.proofs.CommonNames.{common_allowed}
+use Rattle.x509_path_steps.specs.ServerNames.{IsOneAllowed}
+use Rattle.x509_path_steps.specs.Validation.{HasAlternativeNames}
 use Rattle.x509_validation.proofs.validator.Validator.are_common_names_allowed.Goals as goal
 
 pub returns : goal.returns

@@ -2,13 +2,13 @@ use Rattle.std.proofs.Common.{◌↔◌, subst, sym}
 use Rattle.std.proofs.lemmas.Result.{IfOk-weaker}
 use Rattle.std.specs.Bool.{IsTrue}
 use Rattle.x509_match.specs.Matching.{NamesMatch}
-use Rattle.x509_validation.specs.Keys.{key_behind}
-use Rattle.x509_validation.specs.Last.{HasOwnFault}
-use Rattle.x509_validation.specs.Steps.{asked_before}
 use Rattle.x509_path.proofs.Lent.{differ}
 use Rattle.x509_path.proofs.PathLengths.{too_deep}
+use Rattle.x509_path_steps.specs.Keys.{key_behind}
+use Rattle.x509_path_steps.specs.Steps.{asked_before}
 use Rattle.x509_validation.proofs.OwnFaults.{IsLeft, of_path}
 use Rattle.x509_validation.proofs.validator.Validator.breaks.Goals as goal
+use Rattle.x509_validation.specs.Last.{HasOwnFault}
 
 pub returns-in_ok-is_signed-in-Signature : goal.returns-in_ok-is_signed-in-Signature
 returns-in_ok-is_signed-in-Signature g c = λ inputs above before n certificate stands knows own.

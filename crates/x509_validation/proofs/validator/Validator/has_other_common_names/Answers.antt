@@ -1,8 +1,8 @@
 use Rattle.std.proofs.Common.{◌≡◌, ◌∙◌, ap, sym, true}
 use Rattle.std.proofs.lemmas.Bool.{true≢false}
 use Rattle.x509_path.proofs.Lent.{differ}
-use Rattle.x509_validation.specs.declared.asked.Uses.{Uses}
-use Rattle.x509_validation.proofs.CommonNames.{no_common_limits}
+use Rattle.x509_path_steps.proofs.CommonNames.{no_common_limits}
+use Rattle.x509_path_steps.specs.declared.asked.Uses.{Uses}
 use Rattle.x509_validation.proofs.validator.Validator.has_other_common_names.Goals as goal
 
 pub returns-then-not-stand-3 : goal.returns-then-not-stand-3

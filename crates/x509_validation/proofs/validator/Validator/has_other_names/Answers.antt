@@ -1,7 +1,7 @@
 use Rattle.std.proofs.Common.{sym}
 use Rattle.std.proofs.lemmas.Bool.{true≢false}
-use Rattle.x509_validation.proofs.AllowedNames.{no_limits}
 use Rattle.x509_path.proofs.Lent.{differ}
+use Rattle.x509_path_steps.proofs.AllowedNames.{no_limits}
 use Rattle.x509_validation.proofs.validator.Validator.has_other_names.Goals as goal
 
 pub returns-then-not-stand : goal.returns-then-not-stand

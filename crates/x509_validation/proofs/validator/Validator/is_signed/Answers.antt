@@ -4,9 +4,9 @@ use Rattle.std.specs.Bool.{IsTrue}
 use Rattle.x509_base.specs.SubjectPublicKeyInfo.{subject_public_key_info}
 use Rattle.x509_der.specs.Form.{Spells}
 use Rattle.x509_path.specs.Certificates.{IsSigned}
-use Rattle.x509_validation.specs.Keys.{with_parameters}
-use Rattle.x509_validation.proofs.KeyAnswers.{lent_some}
-use Rattle.x509_validation.proofs.WorkingKeys.{none_held}
+use Rattle.x509_path_steps.proofs.KeyAnswers.{lent_some}
+use Rattle.x509_path_steps.proofs.WorkingKeys.{none_held}
+use Rattle.x509_path_steps.specs.Keys.{with_parameters}
 use Rattle.x509_validation.proofs.validator.Validator.is_signed.Goals as goal
 
 pub returns-in_default : goal.returns-in_default

@@ -1,10 +1,10 @@
 use Rattle.std.proofs.Common.{◌∙◌, Err, Ok, refl, sym, subst}
-use Rattle.x509_path.specs.Lent.{Lends}
-use Rattle.x509_validation.specs.Steps.{JudgesAlone, standing}
-use Rattle.x509_validation.specs.Validation.{Breaks, reasons}
-use Rattle.x509_validation.specs.declared.validation_fault.ValidationReason.TheVariants.{Decode}
 use Rattle.x509_path.proofs.Firsts.{unreadable}
+use Rattle.x509_path.specs.Lent.{Lends}
+use Rattle.x509_path_steps.specs.Validation.{Breaks, reasons}
+use Rattle.x509_path_steps.specs.declared.validation_fault.ValidationReason.TheVariants.{Decode}
 use Rattle.x509_validation.proofs.validator.Validator.judge.Goals as goal
+use Rattle.x509_validation.specs.Judging.{JudgesAlone, standing}
 
 pub returns-in-Err : goal.returns-in-Err
 returns-in-Err g c = λ inputs above before n stands.

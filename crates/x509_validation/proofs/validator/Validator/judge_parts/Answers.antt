@@ -4,14 +4,15 @@ use Rattle.std.proofs.lemmas.List.{take_all}
 use Rattle.std.proofs.lemmas.List.Elements.{All-more}
 use Rattle.std.specs.List.{All}
 use Rattle.std.specs.Option.{option_map}
-use Rattle.x509_policy.specs.Views.{octets_of}
-use Rattle.x509_validation.specs.Steps.{left_at, standing}
-use Rattle.x509_validation.specs.Validation.{Breaks, own_reasons}
-use Rattle.x509_validation.specs.declared.validation_fault.ValidationReason.TheVariants.{Decode, RepeatedPolicy, Policy, PolicyMapping}
 use Rattle.x509_path.proofs.Firsts.{first_wrong_at}
-use Rattle.x509_validation.proofs.LeftPurposes.{left_behind_is, left_here}
+use Rattle.x509_path_steps.proofs.LeftPurposes.{left_behind_is, left_here}
+use Rattle.x509_path_steps.specs.Steps.{left_at}
+use Rattle.x509_path_steps.specs.Validation.{Breaks, own_reasons}
+use Rattle.x509_path_steps.specs.declared.validation_fault.ValidationReason.TheVariants.{Decode, RepeatedPolicy, Policy, PolicyMapping}
+use Rattle.x509_policy.specs.Views.{octets_of}
 use Rattle.x509_validation.proofs.Verdicts.{all_own, knows_of}
 use Rattle.x509_validation.proofs.validator.Validator.judge_parts.Goals as goal
+use Rattle.x509_validation.specs.Judging.{standing}
 
 pub loop-reason-preserved : goal.loop-reason-preserved
 loop-reason-preserved g c = λ inputs above before n certificate stands lends same.

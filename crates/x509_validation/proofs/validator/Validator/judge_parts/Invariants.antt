@@ -1,12 +1,12 @@
 use Rattle.std.proofs.Common.{◌≡◌, ℕ, List, take}
 use Rattle.std.specs.List.{All}
 use Rattle.x509_path.specs.Certificates.{Certificate, extensions_of}
-use Rattle.x509_validation.specs.Inputs.{Inputs}
 use Rattle.x509_path.specs.Lent.{Lends, lent_extensions}
-use Rattle.x509_validation.specs.Steps.{Stands, standing}
-use Rattle.x509_validation.specs.Validation.{Breaks, own_reasons}
 use Rattle.x509_path.specs.declared.anchor.Anchor.{Anchor}
+use Rattle.x509_path_steps.specs.Inputs.{Inputs}
+use Rattle.x509_path_steps.specs.Validation.{Breaks, own_reasons}
 use Rattle.x509_validation.proofs.validator.Validator.judge_parts.Given as goal
+use Rattle.x509_validation.specs.Judging.{Stands, standing}
 
 -- none of the reasons so far holds
 abbrev pub invariant-loop-reason : goal.invariant-loop-reason

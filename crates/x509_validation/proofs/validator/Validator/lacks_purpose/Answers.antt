@@ -1,8 +1,8 @@
 use Rattle.std.specs.Option.{option_map}
+use Rattle.x509_path_steps.proofs.LeftPurposes.{left_here}
+use Rattle.x509_path_steps.specs.Steps.{left_at}
+use Rattle.x509_path_steps.specs.Validation.{asked_at}
 use Rattle.x509_policy.specs.Views.{octets_of}
-use Rattle.x509_validation.specs.Steps.{left_at}
-use Rattle.x509_validation.specs.Validation.{asked_at}
-use Rattle.x509_validation.proofs.LeftPurposes.{left_here}
 use Rattle.x509_validation.proofs.validator.Validator.lacks_purpose.Goals as goal
 
 pub returns : goal.returns

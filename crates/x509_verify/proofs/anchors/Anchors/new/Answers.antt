@@ -5,15 +5,15 @@ use Rattle.std.proofs.lemmas.Grind.{merely}
 use Rattle.x509_der.specs.Form.{Spells}
 use Rattle.x509_der.specs.contracts.error.ErrorKind.{the_type}
 use Rattle.x509_der.specs.declared.error.ErrorKind.TheVariants.{Memory}
-use Rattle.x509_name.specs.Names.{name}
 use Rattle.x509_match.specs.declared.key.MatchedName.{MatchedName}
-use Rattle.x509_validation.specs.declared.trusted.Trusted.{Trusted}
-use Rattle.x509_verify.specs.Named.{IsNamed, IsUnderName}
-use Rattle.x509_verify.specs.declared.keyed.Keyed.{Keyed}
+use Rattle.x509_name.specs.Names.{name}
+use Rattle.x509_path_steps.specs.declared.trusted.Trusted.{Trusted}
 use Rattle.x509_verify.proofs.Gathering.{Gathered, gathered_all, none_more, one_more}
 use Rattle.x509_verify.proofs.Keys.{any_default}
 use Rattle.x509_verify.proofs.anchors.Anchors.new.Goals as goal
 use Rattle.x509_verify.proofs.anchors.Anchors.new.Goals.{in-Ok+in_ok-push-in-Ok, in-Err+else-eq}
+use Rattle.x509_verify.specs.Named.{IsNamed, IsUnderName}
+use Rattle.x509_verify.specs.declared.keyed.Keyed.{Keyed}
 
 -- what a read of a list answers behind its end
 abbrev blank : Trusted

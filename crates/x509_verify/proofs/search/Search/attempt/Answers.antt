@@ -2,16 +2,16 @@ use Rattle.std.proofs.Common.{◌≡◌, ◌∙◌, ◌⊎◌, inl, inr, ℕ, Li
 use Rattle.std.proofs.lemmas.Bool.{true≢false}
 use Rattle.x509_base.specs.SubjectPublicKeyInfo.{subject_public_key_info}
 use Rattle.x509_path.specs.Certificates.{accept_all}
-use Rattle.x509_validation.specs.Inputs.{AreUnreadable, LendsInputs}
-use Rattle.x509_validation.specs.declared.validation_fault.ValidationFault.TheVariants.{At, Memory}
-use Rattle.x509_validation.specs.declared.validation_fault.ValidationReason.TheVariants.{Signature}
-use Rattle.x509_validation.specs.contracts.validation_fault.ValidationFaultPartialEq.TheImpl as fault_eq
+use Rattle.x509_path_steps.specs.Inputs.{AreUnreadable, LendsInputs}
+use Rattle.x509_path_steps.specs.contracts.validation_fault.ValidationFaultPartialEq.TheImpl as fault_eq
+use Rattle.x509_path_steps.specs.declared.validation_fault.ValidationFault.TheVariants.{At, Memory}
+use Rattle.x509_path_steps.specs.declared.validation_fault.ValidationReason.TheVariants.{Signature}
+use Rattle.x509_verify.proofs.Attempting.{found, right_after, tried, why_refused, why_unsigned}
+use Rattle.x509_verify.proofs.search.Search.attempt.Goals as goal
 use Rattle.x509_verify.specs.Found.{octets}
 use Rattle.x509_verify.specs.Progress.{TellsSigned}
 use Rattle.x509_verify.specs.declared.found.Found.{Found}
 use Rattle.x509_verify.specs.declared.progress.Progress.{Progress}
-use Rattle.x509_verify.proofs.Attempting.{found, right_after, tried, why_refused, why_unsigned}
-use Rattle.x509_verify.proofs.search.Search.attempt.Goals as goal
 
 pub returns-in-Err-clause-tells : goal.returns-in-Err-clause-tells
 returns-in-Err-clause-tells g c = λ wanted same is_trusted on right.

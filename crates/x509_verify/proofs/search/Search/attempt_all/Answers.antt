@@ -3,16 +3,16 @@ use Rattle.std.proofs.lemmas.Grind.{not_there}
 use Rattle.std.specs.List.{All, Contains}
 use Rattle.std.specs.Prelude.{MatchOption, true}
 use Rattle.x509_match.specs.declared.key.MatchedName.{MatchedName}
-use Rattle.x509_validation.specs.declared.trusted.Trusted.{Trusted}
+use Rattle.x509_path_steps.specs.declared.trusted.Trusted.{Trusted}
+use Rattle.x509_verify.proofs.Counting.{attempts, attempts_none, attempts_up_to, one_attempt_more, spends_stop, stops_later, takes_more, takes_nothing, takes_same}
+use Rattle.x509_verify.proofs.Keys.{each_element, each_further, to_map}
+use Rattle.x509_verify.proofs.Searching.{all_tried, despite, later}
+use Rattle.x509_verify.proofs.search.Search.attempt_all.Goals as goal
 use Rattle.x509_verify.specs.Effort.{anchored, named}
 use Rattle.x509_verify.specs.Found.{IsFound, octets}
 use Rattle.x509_verify.specs.Named.{IsUnderName}
 use Rattle.x509_verify.specs.Progress.{AreTried, IsTriedUnder, Spends, Takes, left_of}
 use Rattle.x509_verify.specs.declared.keyed.Keyed.{Keyed}
-use Rattle.x509_verify.proofs.Counting.{attempts, attempts_none, attempts_up_to, one_attempt_more, spends_stop, stops_later, takes_more, takes_nothing, takes_same}
-use Rattle.x509_verify.proofs.Keys.{each_element, each_further, to_map}
-use Rattle.x509_verify.proofs.Searching.{all_tried, despite, later}
-use Rattle.x509_verify.proofs.search.Search.attempt_all.Goals as goal
 
 abbrev value_of : Keyed MatchedName Trusted → Trusted
 value_of entry = entry.value

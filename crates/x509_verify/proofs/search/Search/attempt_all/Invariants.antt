@@ -1,12 +1,12 @@
 use Rattle.std.proofs.Common.{◌≡◌, ◌<◌, ℕ, get_or, length}
 use Rattle.std.specs.Prelude.{IsSome}
 use Rattle.x509_match.specs.declared.key.MatchedName.{MatchedName}
-use Rattle.x509_validation.specs.declared.trusted.Trusted.{Trusted}
+use Rattle.x509_path_steps.specs.declared.trusted.Trusted.{Trusted}
+use Rattle.x509_verify.proofs.Counting.{attempts}
+use Rattle.x509_verify.proofs.search.Search.attempt_all.Given as goal
 use Rattle.x509_verify.specs.Found.{Wanted, octets}
 use Rattle.x509_verify.specs.Progress.{IsOnPath, IsRight, IsSearched, IsTriedUnder, Takes, left_of}
 use Rattle.x509_verify.specs.declared.keyed.Keyed.{Keyed}
-use Rattle.x509_verify.proofs.Counting.{attempts}
-use Rattle.x509_verify.proofs.search.Search.attempt_all.Given as goal
 
 -- what is known is right, and those before were tried, which took as many paths
 abbrev pub invariant-loop-entry : goal.invariant-loop-entry

@@ -1,0 +1,12 @@
+pub mod Oids
+pub mod Says
+pub mod Inputs
+pub mod Policies
+pub mod Trusts
+pub mod Keys
+pub mod WorkingKeys
+pub mod CommonNames
+pub mod ServerNames
+pub mod Validation
+pub mod ValidationFault
+pub mod Steps

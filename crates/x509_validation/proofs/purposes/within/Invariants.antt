@@ -1,7 +1,0 @@
-use Rattle.std.proofs.Common.{◌≡◌, filter, take}
-use Rattle.x509_policy.specs.Values.{has}
-use Rattle.x509_policy.specs.Views.{octets_of}
-use Rattle.x509_validation.proofs.purposes.within.Given as goal
-
-abbrev pub invariant-loop-purpose : goal.invariant-loop-purpose
-invariant-loop-purpose l = octets_of l.found.items ≡ filter (λ p. has l.set p) (octets_of (take l.purpose-index l.purposes))

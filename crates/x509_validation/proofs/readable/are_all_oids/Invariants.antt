@@ -1,7 +1,0 @@
-use Rattle.std.proofs.Common.{take}
-use Rattle.std.specs.List.{All}
-use Rattle.x509_validation.proofs.Readables.{IsOid}
-use Rattle.x509_validation.proofs.readable.are_all_oids.Given as goal
-
-abbrev pub invariant-loop-policy : goal.invariant-loop-policy
-invariant-loop-policy l = All (IsOid l.policies l.policy-index) (take l.policy-index l.policies)

@@ -1,7 +1,0 @@
-use Rattle.std.proofs.Common.{take}
-use Rattle.std.specs.List.{All}
-use Rattle.x509_validation.specs.Trusts.{MayBeLeft}
-use Rattle.x509_validation.proofs.trusted_buf.may_all_be_left.Given as goal
-
-abbrev pub invariant-loop-extension : goal.invariant-loop-extension
-invariant-loop-extension l = All (λ e. MayBeLeft e) (take l.extension-index l.extensions)
