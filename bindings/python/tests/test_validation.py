@@ -30,6 +30,8 @@ KEY, OTHER_KEY = (bytes.fromhex("302a300506032b6570032100") + bytes([octet]) * 3
 
 MOMENT, SIGNATURE, ISSUER, CRITICAL, NOT_CA, PATH_LEN, EXTENSION, NAMES, CONSTRAINTS = 4, 5, 3, 7, 8, 10, 11, 12, 13
 REPEATED_POLICY, POLICY, POLICY_MAPPING, PURPOSE, USAGE, VERSION = 14, 15, 16, 17, 18, 19
+# X509_VALUE, of name constraints that can't be used, and X509_MALFORMED
+INITIAL, NO_ENCODING = 5, 2
 
 
 def name(text: str) -> ours.Name:
@@ -306,9 +308,12 @@ class Validation(unittest.TestCase):
             authority = made("CN=Root", "O=CA,C=DE", OTHER_KEY, CA, constraints)
             with self.subTest(data):
                 self.assertEqual(self.fault(ROOT, [authority, server("a")], NOW, accepts), fault)
-        for data in (unusable, excluded, b"\x30\x01"):
-            with self.subTest(data), self.assertRaises(ours.X509Error):
-                ours.validate_path(ROOT, [AUTHORITY, server("a")], NOW, accepts, name_constraints=data)
+        # those of the caller are asked before the path: whether they are an encoding, and whether they can be used
+        for data, status in ((unusable, INITIAL), (excluded, INITIAL), (b"\x30\x01", NO_ENCODING)):
+            with self.subTest(data):
+                with self.assertRaises(ours.X509Error) as caught:
+                    ours.validate_path(ROOT, [AUTHORITY, server("a")], NOW, accepts, name_constraints=data)
+                self.assertEqual(caught.exception.status, status)
 
     def test_purposes(self) -> None:
         own = [ours.ObjectIdentifier(it) for it in ("1.2.3.4", "1.2.3.5")]
